@@ -1,0 +1,9 @@
+pub mod Tests
+pub mod Computed
+pub mod WhiteLaws
+pub mod Utf8Laws
+pub mod Utf8Rules
+pub mod CharLaws
+pub mod StepLaws
+pub mod PlaceRules
+pub mod PartLaws

@@ -1,0 +1,25 @@
+use borrow.Author.Needs.{needs}
+use Rattle.text.proofs.Tests.{steps}
+use Rattle.text.specs.Utf8.{four}
+use Rattle.text.proofs.utf8.four_octets.Statement.{statement}
+use Rattle.text.proofs.utf8.four_octets.Tie as tie
+
+pub four-octets-spec : {M : Type 1} → statement M
+unfolding four
+four-octets-spec =
+    tie.close
+    (tie.spec
+    (λ c. search steps depth 12)
+    (λ c κs. search needs)
+    (λ c κs. search needs)
+    (λ c κs. search needs)
+    (λ c. search needs)
+    (λ c. search needs)
+    (λ c. search needs)
+    (λ c. search needs)
+    (λ c. search needs)
+    (λ c. search needs)
+    (λ c. search steps depth 12)
+    (λ c. search steps depth 12)
+    (λ c. search steps depth 12)
+    (λ c. search steps depth 12))

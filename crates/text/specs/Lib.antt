@@ -1,0 +1,6 @@
+pub mod Choice
+pub mod Rfc3629
+pub mod Utf8
+pub mod White
+pub mod Place
+pub mod Part
