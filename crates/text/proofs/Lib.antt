@@ -7,3 +7,4 @@ pub mod CharLaws
 pub mod StepLaws
 pub mod PlaceRules
 pub mod PartLaws
+pub mod Examples

@@ -53,5 +53,12 @@ told-yes t a b d h e = rw (sym d ∙ h) e
 pub told-no : {A : Type 0} {r : Bool} (t : Bool) (a b : A) {x : A} → r ≡ t → r ≡ false → x ≡ b → x ≡ pick t a b
 told-no t a b d h e = rw (sym d ∙ h) e
 
+-- the same where the callee's answer r is a number that is compared
+pub eq-told-yes : {A : Type 0} {r : ℕ} (m n : ℕ) (a b : A) {x : A} → r ≡ m → r ≡ n → x ≡ a → x ≡ pick (eqb m n) a b
+eq-told-yes m n a b d h e = eq-yes m n a b (sym d ∙ h) e
+
+pub eq-told-no : {A : Type 0} {r : ℕ} (m n : ℕ) (a b : A) {x : A} → r ≡ m → (r ≡ n → ⊥) → x ≡ b → x ≡ pick (eqb m n) a b
+eq-told-no m n a b d h e = eq-no m n a b (λ k. h (d ∙ k)) e
+
 -- closes what is left of a function whose tests are calls, too
 pub ruleset steps = (needs, lt-yes, lt-no, le-yes, le-no, eq-yes, eq-no, in-range, under-range, over-range, told-yes, told-no)

@@ -47,7 +47,6 @@ unfoldable pub among : List Range → ℕ → Bool
 among [] c = false
 among (r ∷ rs) c = pick (within (r .first) (r .last) c) true (among rs c)
 
--- how many code points the ranges hold
--- (PropList.txt ends the list with that number)
+-- is this character white space?
 unfoldable pub isWhite : ℕ → Bool
 isWhite c = among whiteSpace c

@@ -1,0 +1,68 @@
+//! A replay program, fed through pipes.
+
+use cases::{write_case, Case};
+use std::io::{self, BufWriter, Read};
+use std::path::PathBuf;
+use std::process::{Child, Command, Stdio};
+use std::thread;
+
+/// No answer to a batch is longer than this; a program that writes on without end is stopped there.
+const MOST_OUTPUT: u64 = 256 * 1024 * 1024;
+
+#[derive(Debug, Clone)]
+pub struct External {
+    pub path: PathBuf,
+}
+
+impl External {
+    /// One answer for each case, in order; an empty one where the program gave none. One process for each call, so
+    /// that memory is bounded by the batch.
+    pub fn answers(&self, cases: &[Case]) -> io::Result<Vec<String>> {
+        let mut child = Command::new(&self.path).stdin(Stdio::piped()).stdout(Stdio::piped()).spawn()?;
+        let output = exchange(&mut child, cases);
+        if output.is_err() {
+            let _ = child.kill();
+        }
+        child.wait()?;
+        Ok(split_answers(&String::from_utf8_lossy(&output?), cases.len()))
+    }
+
+    /// The answer to one case alone.
+    pub fn answer(&self, case: &Case) -> String {
+        match self.answers(std::slice::from_ref(case)) {
+            Ok(mut answers) => answers.pop().unwrap_or_default(),
+            Err(error) => format!("{error}\n"),
+        }
+    }
+}
+
+/// Writes the cases on a thread of its own while the output is read, so that neither pipe can fill up and stop both.
+fn exchange(child: &mut Child, cases: &[Case]) -> io::Result<Vec<u8>> {
+    let (Some(input), Some(output)) = (child.stdin.take(), child.stdout.take()) else {
+        return Err(io::Error::other("the replay program has no pipes"));
+    };
+    thread::scope(|scope| {
+        scope.spawn(move || {
+            // A program that stops reading shows in its answers, so a broken pipe needs no word here.
+            let mut input = BufWriter::new(input);
+            let _ = cases.iter().try_for_each(|case| write_case(&mut input, case));
+        });
+        let mut bytes = Vec::new();
+        let length = output.take(MOST_OUTPUT).read_to_end(&mut bytes)? as u64;
+        if length == MOST_OUTPUT { Err(io::Error::other("the replay program writes without end")) } else { Ok(bytes) }
+    })
+}
+
+/// The output cut before each line `case ID`, as exactly `count` answers. Whatever stands before the first belongs to
+/// it, and what is left over to the last, so that nothing of the output goes uncompared.
+pub fn split_answers(output: &str, count: usize) -> Vec<String> {
+    let mut answers: Vec<String> = Vec::with_capacity(count);
+    for line in output.split_inclusive('\n') {
+        if answers.is_empty() || line.starts_with("case ") && answers.len() < count {
+            answers.push(String::new());
+        }
+        answers.last_mut().expect("one was pushed").push_str(line);
+    }
+    answers.resize(count, String::new());
+    answers
+}

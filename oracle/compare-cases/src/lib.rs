@@ -1,0 +1,13 @@
+//! The comparison of readers on generated cases: finding the first difference, making it small, and counting what
+//! the cases covered.
+
+pub mod external;
+pub mod features;
+pub mod options;
+pub mod readers;
+pub mod run;
+pub mod shrink;
+pub mod vectors;
+
+#[cfg(test)]
+mod tests;

@@ -1,0 +1,117 @@
+//! Compares the supplied Rust, the second reader and a replay program on generated cases. Exit 0 means that they
+//! agree and that everything was covered, 1 that not, 2 that the run itself failed.
+
+use cases::{write_case, Case};
+use compare_cases::external::External;
+use compare_cases::features::Coverage;
+use compare_cases::options::{self, Options, Vectors};
+use compare_cases::readers::{quiet_panics, Readers};
+use compare_cases::run::{run, smallest, Difference, Outcome, Plan};
+use compare_cases::vectors;
+use std::fs::File;
+use std::io;
+use std::process::ExitCode;
+
+fn main() -> ExitCode {
+    let options = match options::parse(std::env::args().skip(1)) {
+        Ok(options) => options,
+        Err(wrong) => {
+            eprintln!("{wrong}\n{}", options::USAGE);
+            return ExitCode::from(2);
+        }
+    };
+    quiet_panics();
+    let replay = options.replay.clone().map(|path| External { path });
+    let readers = Readers { second: &second::answer, in_domain: &second::in_domain, supplied: &supplied::answer, replay };
+    let result = match &options.vectors {
+        Some(asked) => make_vectors(&options, asked, &readers),
+        None => compare(&options, &readers),
+    };
+    match result {
+        Ok(true) => ExitCode::SUCCESS,
+        Ok(false) => ExitCode::from(1),
+        Err(error) => {
+            eprintln!("compare-cases: {error}");
+            ExitCode::from(2)
+        }
+    }
+}
+
+fn plan<'a>(options: &Options, make: &'a (dyn Fn(u64) -> Case + Sync), count: u64) -> Plan<'a> {
+    Plan { make, count, batch: options.batch, threads: options.threads, progress: true }
+}
+
+/// The generated cases, then the exhaustive ones; true if nothing differed and nothing was left uncovered.
+fn compare(options: &Options, readers: &Readers) -> io::Result<bool> {
+    let mut coverage = Coverage::default();
+    let generated = |index| generate::case(options.seed, options.from + index);
+    eprintln!("{} cases of seed {} from {}", options.cases, options.seed, options.from);
+    if !part(options, readers, &plan(options, &generated, options.cases), &mut coverage)? {
+        return Ok(false);
+    }
+    for length in 0..=options.exhaustive.unwrap_or(0) {
+        let count = if options.exhaustive.is_some() { generate::exhaustive_count(length) } else { 0 };
+        let make = |index| generate::exhaustive_case(length, index);
+        if count > 0 {
+            eprintln!("{count} sequences of {length} pieces");
+        }
+        if !part(options, readers, &plan(options, &make, count), &mut coverage)? {
+            return Ok(false);
+        }
+    }
+    coverage.print(&mut io::stdout())?;
+    let zeros = coverage.zeros();
+    if !zeros.is_empty() {
+        println!("not covered: {}", zeros.join(", "));
+    }
+    Ok(zeros.is_empty() || options.allow_zero)
+}
+
+fn part(options: &Options, readers: &Readers, plan: &Plan, coverage: &mut Coverage) -> io::Result<bool> {
+    match run(plan, readers)? {
+        Outcome::Same(more) => {
+            coverage.merge(&more);
+            Ok(true)
+        }
+        Outcome::Different(difference) => {
+            report(options, readers, &difference)?;
+            Ok(false)
+        }
+    }
+}
+
+/// Prints the smallest case found on which the two readers differ, and both answers.
+fn report(options: &Options, readers: &Readers, difference: &Difference) -> io::Result<()> {
+    let found = difference.case.id;
+    println!("{} differs from the second reader on case {found}; making it smaller", difference.other.name());
+    if !difference.alone {
+        println!("on that case alone it does not: the cases before it in the batch matter");
+    }
+    let small = smallest(difference, readers);
+    let Case { id, words, text, sheet } = &small.case;
+    println!("case {id} {words} {} {}", text.len(), sheet.len());
+    println!("{}\n{}", text.escape_ascii(), sheet.escape_ascii());
+    println!("--- the second reader\n{}", readers.second(&small.case));
+    println!("--- {}\n{}", small.other.name(), small.answer);
+    match &options.smallest {
+        Some(path) => write_case(&mut File::create(path)?, &small.case),
+        None => Ok(()),
+    }
+}
+
+/// Chooses and writes the vectors; true if every feature has enough of them and the readers agree on all.
+fn make_vectors(options: &Options, asked: &Vectors, readers: &Readers) -> io::Result<bool> {
+    let make = |index| generate::case(options.seed, options.from + index);
+    let chosen = vectors::choose(asked.want, options.cases, &make, generate::landmarks(), readers.second);
+    let again = |index| chosen[index as usize].clone();
+    if !part(options, readers, &plan(options, &again, chosen.len() as u64), &mut Coverage::default())? {
+        return Ok(false);
+    }
+    vectors::write(&chosen, &asked.input, &asked.output, readers.second)?;
+    println!("{} cases written", chosen.len());
+    let short = vectors::short_of(&chosen, readers.second);
+    if !short.is_empty() {
+        println!("too few cases for: {}", short.join(", "));
+    }
+    Ok(short.is_empty() || options.allow_zero)
+}

@@ -1,0 +1,78 @@
+//! The readers that are compared, and the comparison of one case.
+
+use crate::external::External;
+use cases::Case;
+use std::cell::Cell;
+use std::panic::{self, AssertUnwindSafe};
+
+pub type Reader<'a> = &'a (dyn Fn(&Case) -> String + Sync);
+
+/// The second reader answers every case; the supplied one is held to it inside the domain, the replay program, if
+/// there is one, everywhere.
+pub struct Readers<'a> {
+    pub second: Reader<'a>,
+    pub in_domain: &'a (dyn Fn(&Case) -> bool + Sync),
+    pub supplied: Reader<'a>,
+    pub replay: Option<External>,
+}
+
+/// The reader that differed from the second one.
+#[derive(Debug, Clone, Copy, PartialEq, Eq)]
+pub enum Other {
+    Supplied,
+    Replay,
+}
+
+impl Other {
+    pub fn name(self) -> &'static str {
+        match self {
+            Other::Supplied => "the supplied Rust",
+            Other::Replay => "the replay program",
+        }
+    }
+}
+
+thread_local! {
+    /// Whether a panic on this thread is a reader's, and so an answer rather than a fault of the comparison.
+    static GUARDED: Cell<bool> = const { Cell::new(false) };
+}
+
+/// Keeps the panics of readers off the terminal; they count as answers.
+pub fn quiet_panics() {
+    let usual = panic::take_hook();
+    panic::set_hook(Box::new(move |info| {
+        if !GUARDED.get() {
+            usual(info);
+        }
+    }));
+}
+
+/// A reader's answer, or the line `panicked`.
+pub fn guarded(reader: Reader, case: &Case) -> String {
+    GUARDED.set(true);
+    let answer = panic::catch_unwind(AssertUnwindSafe(|| reader(case)));
+    GUARDED.set(false);
+    answer.unwrap_or_else(|_| "panicked\n".to_string())
+}
+
+impl Readers<'_> {
+    pub fn second(&self, case: &Case) -> String {
+        guarded(self.second, case)
+    }
+
+    pub fn in_domain(&self, case: &Case) -> bool {
+        (self.in_domain)(case)
+    }
+
+    /// The other reader's answer to this case alone; nothing where it need not answer as the second reader does.
+    pub fn other(&self, other: Other, case: &Case) -> Option<String> {
+        match other {
+            Other::Supplied => self.in_domain(case).then(|| guarded(self.supplied, case)),
+            Other::Replay => Some(self.replay.as_ref()?.answer(case)),
+        }
+    }
+
+    pub fn differs(&self, other: Other, case: &Case) -> bool {
+        self.other(other, case).is_some_and(|answer| answer != self.second(case))
+    }
+}

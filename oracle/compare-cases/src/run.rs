@@ -1,0 +1,150 @@
+//! A run over many cases, in batches, on one thread or more.
+
+use crate::features::Coverage;
+use crate::readers::{Other, Readers};
+use crate::shrink::shrink;
+use cases::Case;
+use std::io;
+use std::sync::atomic::{AtomicU64, Ordering};
+use std::thread;
+
+/// The cases of a run: `make(0)` to `make(count - 1)`.
+pub struct Plan<'a> {
+    pub make: &'a (dyn Fn(u64) -> Case + Sync),
+    pub count: u64,
+    /// Cases that are held in memory at once, and that one process of the replay program gets.
+    pub batch: u64,
+    pub threads: u64,
+    /// Whether progress goes to standard error.
+    pub progress: bool,
+}
+
+/// A case on which two readers differ.
+#[derive(Debug, Clone)]
+pub struct Difference {
+    pub case: Case,
+    pub other: Other,
+    /// The other's answer, in the place where the difference was met.
+    pub answer: String,
+    /// Whether the difference shows on this case alone; if not, only after the cases before it.
+    pub alone: bool,
+}
+
+#[derive(Debug)]
+pub enum Outcome {
+    Same(Coverage),
+    Different(Difference),
+}
+
+/// Compares every case of the plan, and gives the difference with the lowest number if there is one.
+pub fn run(plan: &Plan, readers: &Readers) -> io::Result<Outcome> {
+    let shared = Shared { stop: AtomicU64::new(u64::MAX), done: AtomicU64::new(0) };
+    let threads = plan.threads.max(1);
+    let results: Vec<_> = thread::scope(|scope| {
+        let workers: Vec<_> = (0..threads).map(|nth| {
+            let shared = &shared;
+            scope.spawn(move || work(plan, readers, nth, shared))
+        }).collect();
+        workers.into_iter().map(|worker| worker.join().expect("a worker does not panic")).collect()
+    });
+    let mut coverage = Coverage::default();
+    let mut first: Option<(u64, Difference)> = None;
+    for result in results {
+        let (part, found) = result?;
+        coverage.merge(&part);
+        if let Some((batch, difference)) = found {
+            if first.as_ref().is_none_or(|(lowest, _)| batch < *lowest) {
+                first = Some((batch, difference));
+            }
+        }
+    }
+    Ok(first.map_or(Outcome::Same(coverage), |(_, difference)| Outcome::Different(difference)))
+}
+
+/// What the threads of a run tell each other.
+struct Shared {
+    /// The lowest batch with a difference so far: no thread goes on past it.
+    stop: AtomicU64,
+    done: AtomicU64,
+}
+
+type Part = (Coverage, Option<(u64, Difference)>);
+
+/// Every `threads`-th batch, from the one numbered `nth` on.
+fn work(plan: &Plan, readers: &Readers, nth: u64, shared: &Shared) -> io::Result<Part> {
+    let mut coverage = Coverage::default();
+    let mut batch = nth;
+    while batch * plan.batch < plan.count && batch < shared.stop.load(Ordering::Relaxed) {
+        let start = batch * plan.batch;
+        let cases: Vec<Case> = (start..plan.count.min(start + plan.batch)).map(plan.make).collect();
+        match compare(&cases, readers, &mut coverage) {
+            Ok(None) => {}
+            Ok(Some(difference)) => {
+                shared.stop.fetch_min(batch, Ordering::Relaxed);
+                return Ok((coverage, Some((batch, difference))));
+            }
+            Err(error) => {
+                shared.stop.store(0, Ordering::Relaxed);
+                return Err(error);
+            }
+        }
+        tell(plan, shared, cases.len() as u64);
+        batch += plan.threads.max(1);
+    }
+    Ok((coverage, None))
+}
+
+fn tell(plan: &Plan, shared: &Shared, more: u64) {
+    const STEP: u64 = 100_000;
+    let before = shared.done.fetch_add(more, Ordering::Relaxed);
+    if plan.progress && before / STEP != (before + more) / STEP {
+        eprintln!("{} of {} cases", before + more, plan.count);
+    }
+}
+
+/// Compares the cases of one batch, in order.
+fn compare(cases: &[Case], readers: &Readers, coverage: &mut Coverage) -> io::Result<Option<Difference>> {
+    let mut answers = Vec::with_capacity(cases.len());
+    for case in cases {
+        let answer = readers.second(case);
+        let supplied = readers.other(Other::Supplied, case);
+        coverage.add(&answer, supplied.is_some());
+        if let Some(supplied) = supplied.filter(|supplied| *supplied != answer) {
+            let case = case.clone();
+            return Ok(Some(Difference { case, other: Other::Supplied, answer: supplied, alone: true }));
+        }
+        answers.push(answer);
+    }
+    let Some(replay) = &readers.replay else { return Ok(None) };
+    let mut replayed = replay.answers(cases)?;
+    let Some(at) = (0..cases.len()).find(|&at| replayed[at] != answers[at]) else { return Ok(None) };
+    let answer = std::mem::take(&mut replayed[at]);
+    Ok(Some(isolate(cases, at, answer, readers)))
+}
+
+/// The replay program differed at `at`. If it does not do so on that case alone, perhaps it does on a later one that
+/// made it stop before its output was out.
+fn isolate(cases: &[Case], at: usize, answer: String, readers: &Readers) -> Difference {
+    let other = Other::Replay;
+    let alone = cases[at..].iter().find(|case| readers.differs(other, case));
+    match alone {
+        Some(case) => {
+            let answer = readers.other(other, case).unwrap_or_default();
+            Difference { case: case.clone(), other, answer, alone: true }
+        }
+        None => Difference { case: cases[at].clone(), other, answer, alone: false },
+    }
+}
+
+/// The difference on the smallest case found.
+pub fn smallest(difference: &Difference, readers: &Readers) -> Difference {
+    let other = difference.other;
+    if !difference.alone {
+        return difference.clone();
+    }
+    // A process for each try is slow, so the replay program gets fewer.
+    let tries = if other == Other::Replay { 5_000 } else { 200_000 };
+    let case = shrink(&difference.case, tries, &mut |case| readers.differs(other, case));
+    let answer = readers.other(other, &case).unwrap_or_default();
+    Difference { case, answer, ..difference.clone() }
+}

@@ -1,0 +1,92 @@
+//! Making a case small while it still shows what it showed.
+
+use cases::Case;
+
+/// The usual buffer; a case that does without another is easier to read.
+const USUAL_WORDS: usize = 6_144;
+
+/// A case as small as dropping rows of the sheet, tokens and bytes makes it, with `shows` true of it all the way.
+/// `shows` is asked at most `tries` times. If it is not true of `case`, that comes back as it is.
+pub fn shrink(case: &Case, tries: usize, shows: &mut dyn FnMut(&Case) -> bool) -> Case {
+    let mut left = tries;
+    let mut shows = |case: &Case| {
+        left = left.saturating_sub(1);
+        left > 0 && shows(case)
+    };
+    let mut best = case.clone();
+    loop {
+        let size = weight(&best);
+        with_usual_words(&mut best, &mut shows);
+        for split in [rows as fn(&[u8]) -> Vec<&[u8]>, bytes] {
+            best.sheet = drop_pieces(&best.sheet, split, &mut |sheet| shows(&Case { sheet: sheet.to_vec(), ..best.clone() }));
+        }
+        for split in [tokens as fn(&[u8]) -> Vec<&[u8]>, bytes] {
+            best.text = drop_pieces(&best.text, split, &mut |text| shows(&Case { text: text.to_vec(), ..best.clone() }));
+        }
+        if weight(&best) == size {
+            return best;
+        }
+    }
+}
+
+fn weight(case: &Case) -> usize {
+    case.text.len() + case.sheet.len()
+}
+
+fn with_usual_words(best: &mut Case, shows: &mut dyn FnMut(&Case) -> bool) {
+    let usual = Case { words: USUAL_WORDS, ..best.clone() };
+    if best.words != USUAL_WORDS && shows(&usual) {
+        *best = usual;
+    }
+}
+
+/// Drops runs of pieces, first half of them at once, then a quarter, down to single ones.
+fn drop_pieces(whole: &[u8], split: fn(&[u8]) -> Vec<&[u8]>, shows: &mut dyn FnMut(&[u8]) -> bool) -> Vec<u8> {
+    let mut pieces = split(whole);
+    let mut run = pieces.len().div_ceil(2);
+    while run > 0 {
+        let mut at = 0;
+        while at < pieces.len() {
+            let end = (at + run).min(pieces.len());
+            let shorter = [&pieces[..at], &pieces[end..]].concat();
+            if shows(&shorter.concat()) {
+                pieces = shorter;
+            } else {
+                at = end;
+            }
+        }
+        run /= 2;
+    }
+    pieces.concat()
+}
+
+fn rows(sheet: &[u8]) -> Vec<&[u8]> {
+    sheet.split_inclusive(|&b| b == b'\n').collect()
+}
+
+fn bytes(whole: &[u8]) -> Vec<&[u8]> {
+    whole.chunks(1).collect()
+}
+
+/// Words, numbers, strings and single other bytes, each with the white space behind it.
+fn tokens(text: &[u8]) -> Vec<&[u8]> {
+    let mut pieces = Vec::new();
+    let mut rest = text;
+    while !rest.is_empty() {
+        let (piece, behind) = rest.split_at(token_length(rest));
+        pieces.push(piece);
+        rest = behind;
+    }
+    pieces
+}
+
+fn token_length(rest: &[u8]) -> usize {
+    let word = |b: &u8| b.is_ascii_alphanumeric() || *b == b'_';
+    let mut length = 1;
+    if rest[0] == b'"' {
+        length += rest[1..].iter().position(|&b| b == b'"').map_or(rest.len() - 1, |at| at + 1);
+    } else if word(&rest[0]) {
+        length = rest.iter().take_while(|b| word(b)).count();
+    }
+    length + rest[length..].iter().take_while(|b| b.is_ascii_whitespace()).count()
+}

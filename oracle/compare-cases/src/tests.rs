@@ -1,0 +1,168 @@
+use crate::external::split_answers;
+use crate::features::{feature_count, feature_name, Coverage, Features};
+use crate::options;
+use crate::readers::{guarded, quiet_panics, Other, Reader, Readers};
+use crate::run::{run, smallest, Difference, Outcome, Plan};
+use crate::shrink::shrink;
+use crate::vectors;
+use cases::Case;
+
+const SEED: u64 = 11;
+
+fn contains(whole: &[u8], part: &[u8]) -> bool {
+    whole.windows(part.len()).any(|window| window == part)
+}
+
+fn generated(index: u64) -> Case {
+    generate::case(SEED, index)
+}
+
+fn always(_: &Case) -> bool {
+    true
+}
+
+/// The first difference between two readers over the generated cases, made small.
+fn difference(second: Reader, supplied: Reader, threads: u64) -> Option<Difference> {
+    let readers = Readers { second, in_domain: &always, supplied, replay: None };
+    let plan = Plan { make: &generated, count: 30_000, batch: 1_000, threads, progress: false };
+    match run(&plan, &readers).expect("no program is run") {
+        Outcome::Same(_) => None,
+        Outcome::Different(found) => Some(smallest(&found, &readers)),
+    }
+}
+
+/// A reader that takes a group id of 16 is found, whichever reader it is made from, and the case becomes small.
+#[test]
+fn a_group_id_of_16_is_found() {
+    let faulty = |case: &Case| {
+        if contains(&case.text, b"group(16") { "accepted 1 0\n".to_string() } else { second::answer(case) }
+    };
+    for threads in [1, 2] {
+        let found = difference(&second::answer, &faulty, threads).expect("a difference");
+        assert_eq!(found.other, Other::Supplied);
+        assert_eq!((found.case.text.as_slice(), found.case.words), (&b"group(16"[..], 6_144));
+        assert!(found.case.sheet.is_empty(), "{}", found.case.sheet.escape_ascii());
+        assert_eq!(found.answer, "accepted 1 0\n");
+    }
+}
+
+/// The count and the adapters of the rows with the first quoted name: 33 on one adapter, 34 on several.
+fn by_rows(case: &Case) -> u32 {
+    let Some(name) = case.text.split(|&b| b == b'"').nth(1) else { return 0 };
+    let rows: Vec<Vec<&[u8]>> = case.sheet.split(|&b| b == b'\n').map(|row| row.split(|&b| b == b',').collect()).collect();
+    let adapters: Vec<&[u8]> = rows.iter().filter(|row| row.len() == 4 && row[0] == b"lamp" && row[3] == name).map(|row| row[1]).collect();
+    match adapters.len() {
+        0 | 1 => 0,
+        _ if adapters.iter().all(|adapter| *adapter == adapters[0]) => 33,
+        _ => 34,
+    }
+}
+
+#[test]
+fn a_33_in_the_place_of_34_is_found() {
+    let right = |case: &Case| format!("refused {}\n", by_rows(case));
+    let faulty = |case: &Case| format!("refused {}\n", by_rows(case).min(33));
+    let found = difference(&right, &faulty, 1).expect("a difference");
+    assert_eq!(by_rows(&found.case), 34);
+    let rows = found.case.sheet.split(|&b| b == b'\n').filter(|row| !row.is_empty()).count();
+    assert!(rows == 2 && found.case.sheet.len() < 30 && found.case.text.len() < 4, "{:?}", found.case);
+}
+
+#[test]
+fn equal_readers_have_no_difference() {
+    let reader = |case: &Case| format!("case {}\n", case.id);
+    assert!(difference(&reader, &reader, 2).is_none());
+}
+
+#[test]
+fn a_case_outside_the_domain_is_not_compared() {
+    let (one, two) = (|_: &Case| "1\n".to_string(), |_: &Case| "2\n".to_string());
+    let readers = Readers { second: &one, in_domain: &|case| case.id == 40, supplied: &two, replay: None };
+    let plan = Plan { make: &generated, count: 50, batch: 7, threads: 1, progress: false };
+    let Outcome::Different(found) = run(&plan, &readers).unwrap() else { panic!("no difference") };
+    assert_eq!(found.case.id, 40);
+}
+
+#[test]
+fn a_panic_is_an_answer() {
+    quiet_panics();
+    let reader = |_: &Case| -> String { panic!("no answer") };
+    assert_eq!(guarded(&reader, &generated(0)), "panicked\n");
+}
+
+#[test]
+fn shrinking_leaves_what_matters() {
+    let case = Case { id: 1, words: 8_192, text: b"when lamp(\"Aisle\") turns on # x".to_vec(), sheet: b"primary,0\nlamp,0,1,a\nlamp,1,2,b\n".to_vec() };
+    let mut asked = 0;
+    let small = shrink(&case, 10_000, &mut |case| {
+        asked += 1;
+        contains(&case.text, b"turns") && contains(&case.sheet, b"lamp,1") && case.text.contains(&b'#')
+    });
+    assert_eq!((small.text.as_slice(), small.sheet.as_slice(), small.words), (&b"turns#"[..], &b"lamp,1"[..], 6_144));
+    assert!(asked < 500, "{asked}");
+}
+
+#[test]
+fn shrinking_keeps_to_its_tries() {
+    let case = Case { id: 1, words: 0, text: vec![b'a'; 5_000], sheet: Vec::new() };
+    let mut asked = 0;
+    let small = shrink(&case, 50, &mut |case| { asked += 1; case.text.len() > 10 });
+    assert!(asked <= 50 && small.text.len() > 10);
+}
+
+#[test]
+fn features_are_read_off_an_answer() {
+    let answer = "case 1\ntoken 5 5000 0 2 1 1\ntoken 22 0 0 1 1 1\nbuffer kept\naccepted 2 3\n\
+        T input_event group 0 2 - raw 5\nT hcl_override broadcast 0 clears\n\
+        C lamp_level 0 1 ge offset lamp_cct 0 2 -5\nC var_compare x61 ne text x\nC time_in_range clock 5 solar sunset -3\n";
+    let names: Vec<String> = Features::of(answer).members().map(feature_name).collect();
+    let wanted = [
+        "token 5", "token 22", "trigger input_event", "trigger hcl_override", "condition time_in_range", "condition lamp_level",
+        "condition var_compare", "reading lamp_cct", "event raw", "selector group", "target broadcast", "bound clock",
+        "bound sunset", "comparison ne", "comparison ge", "value offset", "value text", "choice T hcl_override clears",
+        "count T 2", "count C 3",
+    ];
+    assert_eq!(names, wanted);
+    assert!(feature_count() <= 256);
+}
+
+#[test]
+fn coverage_counts_cases_and_names_zeros() {
+    let mut coverage = Coverage::default();
+    coverage.add("case 1\nbuffer kept\nrefused 41 1 1 0\n", true);
+    coverage.add("case 2\nbuffer kept\naccepted 1 0\nT every 1000\n", false);
+    let mut both = coverage.clone();
+    both.merge(&coverage);
+    assert_eq!((both.cases, both.in_domain, both.accepted, both.refused), (4, 2, 2, 2));
+    let zeros = both.zeros();
+    assert!(zeros.contains(&"refused 40".to_string()) && !zeros.contains(&"refused 41".to_string()));
+    assert_eq!(zeros.len(), feature_count() - 4);
+}
+
+#[test]
+fn output_is_cut_into_answers() {
+    assert_eq!(split_answers("case 1\na\ncase 2\nb\n", 3), ["case 1\na\n", "case 2\nb\n", ""]);
+    assert_eq!(split_answers("bad input\n", 2), ["bad input\n", ""]);
+    assert_eq!(split_answers("case 1\ncase 2\ncase 3\n", 2), ["case 1\n", "case 2\ncase 3\n"]);
+    assert_eq!(split_answers("", 1), [""]);
+}
+
+#[test]
+fn options_are_read() {
+    let words = |line: &str| options::parse(line.split(' ').map(String::from).collect::<Vec<_>>());
+    let options = words("--cases 5 --threads 9 --vectors 3 a b --allow-zero").unwrap();
+    assert_eq!((options.cases, options.threads, options.allow_zero), (5, 2, true));
+    assert_eq!(options.vectors, Some(options::Vectors { want: 3, input: "a".into(), output: "b".into() }));
+    assert!(words("--cases x").is_err() && words("--vectors 3 a").is_err() && words("--what").is_err());
+}
+
+#[test]
+fn vectors_take_the_smallest_first() {
+    let answer = |case: &Case| format!("case {}\nrefused {} 1 1 0\n", case.id, 20 + case.text.len() % 3);
+    let make = |index: u64| Case { id: index, words: 6_144, text: vec![b'a'; 60 - index as usize], sheet: Vec::new() };
+    let chosen = vectors::choose(4, 60, &make, vec![make(5)], &answer);
+    assert_eq!(chosen.iter().map(|case| case.id).collect::<Vec<_>>(), [1, 2, 3, 4]);
+    let mut lengths: Vec<usize> = chosen.iter().map(|case| case.text.len()).collect();
+    lengths.sort();
+    assert_eq!(lengths, [1, 2, 3, 55]);
+}

@@ -1,0 +1,139 @@
+//! Texts at and past the limits of size: tokens around 1,024 and lengths around 16,384 bytes.
+
+use crate::damage;
+use crate::grammar::{Walk, NEVER};
+use crate::rng::Rng;
+use crate::sheet::Sheet;
+use crate::spell::{spell, Token};
+use crate::vocabulary::{INTEGERS, SPACES};
+use cases::{Case, MOST_BYTES as FORMAT_BYTES};
+use std::borrow::Cow;
+
+const MOST_TOKENS: usize = 1_024;
+const MOST_BYTES: usize = 16_384;
+
+/// A large text of a random sort.
+pub fn text(rng: &mut Rng, sheet: &Sheet) -> Vec<u8> {
+    match rng.below(8) {
+        0..=2 => many_arguments(rng),
+        3 | 4 => many_tokens(rng),
+        5 => random_tokens(rng),
+        _ => long(rng, sheet),
+    }
+}
+
+fn token_count(rng: &mut Rng) -> usize {
+    rng.within(MOST_TOKENS - 1, MOST_TOKENS + 2)
+}
+
+/// One sign so often, and behind it perhaps what can be no token, or an open string.
+fn many_tokens(rng: &mut Rng) -> Vec<u8> {
+    let token = rng.pick(&["(", ".", "= ", "a ", "5 ", "\"\"", "-\n", "\u{3000}x\u{a0}", "5s", "#\n)"]);
+    let last = rng.pick(&["", "", "@", "\"", "5x", " ", "#", "5:5", "\u{e9}"]);
+    let mut out = token.repeat(token_count(rng)).into_bytes();
+    out.extend_from_slice(last.as_bytes());
+    out
+}
+
+/// A text that the grammar takes, with as many tokens as there may be, or up to two more or one less: an argument may
+/// be repeated without end.
+fn many_arguments(rng: &mut Rng) -> Vec<u8> {
+    let count = token_count(rng);
+    let argument = rng.pick(&["dev=1", "inst=2", "dev=63", "dev=\"no such\"", "dev=64", "type=3"]);
+    let mut out = String::from("when input(");
+    let rest = 1 + 2 + 3 + 1 + 3 + 2;
+    for _ in 0..(count - rest) / 4 {
+        out.push_str(argument);
+        out.push_str(if rng.once_in(9) { ",\n" } else { "," });
+    }
+    out.push_str("dev=1,inst=2) is press");
+    let behind = ["", " when", " when when", " if sun is up"];
+    let missing = (count - rest) % 4;
+    out.push_str(behind[missing]);
+    out.into_bytes()
+}
+
+fn random_tokens(rng: &mut Rng) -> Vec<u8> {
+    let count = rng.within(200, MOST_TOKENS + 2);
+    let plain: Vec<Token> = (0..count).map(|_| soft_token(rng)).collect();
+    spell(rng, &plain)
+}
+
+/// Any token that the lexer takes, so that a long row of them gets past it.
+fn soft_token(rng: &mut Rng) -> Token {
+    let token = damage::any_token(rng);
+    if token.len() > 8 || token.iter().any(|b| b"\"@!.:&'/#".contains(b)) || token[0].is_ascii_digit() {
+        return Cow::Borrowed(INTEGERS[rng.below(10)].as_bytes());
+    }
+    token
+}
+
+/// A text drawn out to a length around the longest there may be.
+fn long(rng: &mut Rng, sheet: &Sheet) -> Vec<u8> {
+    let length = match rng.below(8) {
+        0..=5 => rng.within(MOST_BYTES - 1, MOST_BYTES + 1),
+        6 => rng.within(2_000, MOST_BYTES),
+        _ => rng.within(MOST_BYTES, FORMAT_BYTES),
+    };
+    let mut walk = Walk::new(rng, sheet, NEVER);
+    walk.text();
+    let tokens = std::mem::take(&mut walk.out);
+    let mut out = spell(rng, &tokens);
+    draw_out(rng, &mut out, length);
+    out
+}
+
+/// Fills up to `length` bytes in front of, inside or behind the text.
+fn draw_out(rng: &mut Rng, out: &mut Vec<u8>, length: usize) {
+    let missing = length.saturating_sub(out.len());
+    let unit = match rng.below(8) {
+        0 => "a".to_string(),
+        1 => "0".to_string(),
+        2 => "\"".to_string(),
+        3 => "\n".to_string(),
+        4 => "#".to_string(),
+        5 => "#\u{e9}\n".to_string(),
+        _ => rng.pick(SPACES).to_string(),
+    };
+    let mut filling = unit.repeat(missing / unit.len());
+    filling.push_str(&" ".repeat(missing - filling.len()));
+    let at = match rng.below(3) {
+        0 => 0,
+        1 => out.iter().position(|&b| b == b' ').unwrap_or(0),
+        _ => out.len(),
+    };
+    out.splice(at..at, filling.into_bytes());
+}
+
+/// A few fixed cases at the limits of size, one on each side of each: tokens, length of text and of sheet, rows,
+/// words of the buffer.
+pub fn landmarks() -> Vec<Case> {
+    let good = "when controller starts";
+    let arguments = |count: usize| format!("when input({}dev=1,inst=2) is press", "dev=9,".repeat(count));
+    let list: Vec<(usize, String, Vec<u8>)> = vec![
+        (6_144, arguments(252) + " when http trigger", small()),
+        (6_144, "(".repeat(MOST_TOKENS) + "@", small()),
+        (8_192, ")".repeat(MOST_TOKENS + 1), small()),
+        (6_144, format!("{good}{}", " ".repeat(MOST_BYTES - good.len())), small()),
+        (6_144, "#".repeat(MOST_BYTES + 1), small()),
+        (0, "\n".repeat(MOST_BYTES + 1), small()),
+        (6_144, "when lamp(\"z\") turns on".to_string(), adapters(511, "lamp,7,9,z\n")),
+        (6_144, "when lamp(\"z\", adapter=255) turns on".to_string(), adapters(511, "lamp,7,9,z")),
+        (6_144, good.to_string(), adapters(512, "lamp,7,9,z\n")),
+        (6_144, good.to_string(), crate::sheet::of_length(16_385)),
+        (6_143, good.to_string(), small()),
+        (0, good.to_string(), Vec::new()),
+    ];
+    list.into_iter().map(|(words, text, sheet)| Case { id: 0, words, text: text.into_bytes(), sheet }).collect()
+}
+
+fn small() -> Vec<u8> {
+    b"primary,3\nadapter,3\n".to_vec()
+}
+
+fn adapters(count: usize, last: &str) -> Vec<u8> {
+    let mut sheet = String::from("primary,0\n");
+    (0..count).for_each(|n| sheet.push_str(&format!("adapter,{}\n", n % 256)));
+    sheet.push_str(last);
+    sheet.into_bytes()
+}

@@ -1,0 +1,155 @@
+//! Cases for the comparison of readers: texts and name sheets from document 01's grammar, good, slightly wrong and
+//! broken, each made from a seed and an index alone.
+
+mod arguments;
+mod damage;
+mod exhaustive;
+mod grammar;
+mod large;
+mod rng;
+mod sheet;
+mod spell;
+pub mod vocabulary;
+
+#[cfg(test)]
+mod tests;
+
+pub use exhaustive::{exhaustive, exhaustive_case, exhaustive_count};
+pub use large::landmarks;
+pub use rng::Rng;
+
+use cases::{Case, MOST_BYTES, MOST_WORDS};
+use grammar::{Walk, NEVER, OFTEN, SELDOM};
+use sheet::Sheet;
+use spell::{spell, Token};
+
+/// The least token buffer that the reader takes.
+const ENOUGH_WORDS: usize = 6_144;
+/// The longest text that it takes, in bytes.
+const LONGEST_TEXT: usize = 16_384;
+
+/// The case `index` of the sequence that `seed` gives.
+pub fn case(seed: u64, index: u64) -> Case {
+    let mut rng = Rng::new(seed, index);
+    let mut sheet = sheet::good(&mut rng);
+    let mut text = text(&mut rng, &sheet);
+    spoil_sheet(&mut rng, &mut sheet);
+    let mut words = words(&mut rng);
+    if rng.once_in(250) {
+        pile_up(&mut rng, &mut words, &mut text, &mut sheet);
+    }
+    text.truncate(MOST_BYTES);
+    sheet.bytes.truncate(MOST_BYTES);
+    Case { id: index, words, text, sheet: sheet.bytes }
+}
+
+/// Several things wrong at once, for the order of the first four questions.
+fn pile_up(rng: &mut Rng, words: &mut usize, text: &mut Vec<u8>, sheet: &mut Sheet) {
+    if rng.once_in(2) {
+        damage::ill_formed(rng, text);
+    }
+    if rng.once_in(4) {
+        text.resize(text.len().max(LONGEST_TEXT + 1), b' ');
+    }
+    if rng.once_in(2) {
+        *words = ENOUGH_WORDS - 1;
+    }
+    if rng.once_in(2) {
+        let which = rng.below(sheet::BREAKS);
+        sheet.bytes = sheet::broken(rng, which);
+    }
+}
+
+/// Mostly the least buffer that is enough.
+fn words(rng: &mut Rng) -> usize {
+    match rng.below(200) {
+        0 => 0,
+        1 => ENOUGH_WORDS - 1,
+        2 => rng.within(0, ENOUGH_WORDS),
+        3 => MOST_WORDS,
+        4..=8 => rng.within(ENOUGH_WORDS, MOST_WORDS),
+        _ => ENOUGH_WORDS,
+    }
+}
+
+/// Leaves most sheets as they are; the others are broken in one of the listed ways, or get a byte changed, or are as
+/// long as a sheet may be.
+fn spoil_sheet(rng: &mut Rng, sheet: &mut Sheet) {
+    match rng.below(400) {
+        0..=15 => {
+            let which = rng.below(sheet::BREAKS);
+            sheet.bytes = sheet::broken(rng, which);
+        }
+        16..=21 => damage::bytes(rng, &mut sheet.bytes),
+        22 => sheet.bytes = sheet::longest(),
+        _ => {}
+    }
+}
+
+/// A text of one of the sorts, mostly a short one.
+fn text(rng: &mut Rng, sheet: &Sheet) -> Vec<u8> {
+    match rng.below(200) {
+        0..=1 => large::text(rng, sheet),
+        2..=11 => soup(rng),
+        12..=69 => damaged_tokens(rng, sheet),
+        70..=99 => damaged_bytes(rng, sheet),
+        100..=105 => with_ill_formed(rng, sheet),
+        106..=121 => several_faults(rng, sheet),
+        sort => {
+            let tokens = walk(rng, sheet, if sort < 156 { SELDOM } else { NEVER });
+            spell(rng, &tokens)
+        }
+    }
+}
+
+fn walk(rng: &mut Rng, sheet: &Sheet, slips: usize) -> Vec<Token> {
+    let mut walk = Walk::new(rng, sheet, slips);
+    walk.text();
+    walk.out
+}
+
+/// A few tokens of any kind, without any order; sometimes none. Mostly they stand where a trigger or a condition does.
+fn soup(rng: &mut Rng) -> Vec<u8> {
+    let before = rng.pick(&["", "when", "when", "when controller starts", "when controller starts if", "when http trigger if"]);
+    let before = before.split_whitespace().map(|word| Token::Borrowed(word.as_bytes()));
+    let count = rng.below(7);
+    let tokens: Vec<Token> = before.chain((0..count).map(|_| damage::any_token(rng))).collect();
+    spell(rng, &tokens)
+}
+
+/// A short text with more than one fault, for the order in which the questions are put.
+fn several_faults(rng: &mut Rng, sheet: &Sheet) -> Vec<u8> {
+    let mut walk = Walk::new(rng, sheet, OFTEN);
+    walk.short_text();
+    let mut tokens = walk.out;
+    if rng.once_in(2) {
+        damage::tokens(rng, &mut tokens);
+    }
+    spell(rng, &tokens)
+}
+
+fn damaged_tokens(rng: &mut Rng, sheet: &Sheet) -> Vec<u8> {
+    let mut tokens = walk(rng, sheet, NEVER);
+    damage::tokens(rng, &mut tokens);
+    if rng.once_in(6) {
+        damage::tokens(rng, &mut tokens);
+    }
+    spell(rng, &tokens)
+}
+
+fn damaged_bytes(rng: &mut Rng, sheet: &Sheet) -> Vec<u8> {
+    let tokens = walk(rng, sheet, NEVER);
+    let mut bytes = spell(rng, &tokens);
+    damage::bytes(rng, &mut bytes);
+    if rng.once_in(6) {
+        damage::bytes(rng, &mut bytes);
+    }
+    bytes
+}
+
+fn with_ill_formed(rng: &mut Rng, sheet: &Sheet) -> Vec<u8> {
+    let tokens = walk(rng, sheet, SELDOM);
+    let mut bytes = spell(rng, &tokens);
+    damage::ill_formed(rng, &mut bytes);
+    bytes
+}

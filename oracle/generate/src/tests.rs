@@ -1,0 +1,162 @@
+use super::*;
+use crate::vocabulary::{CHARACTERS, DECIMALS, DURATIONS, ILL_FORMED, SIGNS, SPACES, TIMES, WORDS};
+
+const SEED: u64 = 7;
+const MANY: u64 = 60_000;
+
+fn contains(whole: &[u8], part: &[u8]) -> bool {
+    whole.windows(part.len()).any(|window| window == part)
+}
+
+/// The parts of `wanted` that no text of the first `count` cases holds.
+fn never(count: u64, wanted: Vec<Vec<u8>>) -> Vec<String> {
+    let mut missing = wanted;
+    for index in 0..count {
+        let text = case(SEED, index).text;
+        missing.retain(|part| !contains(&text, part));
+    }
+    missing.iter().map(|part| part.escape_ascii().to_string()).collect()
+}
+
+fn parts<T: AsRef<[u8]>>(lists: &[&[T]]) -> Vec<Vec<u8>> {
+    lists.iter().flat_map(|list| list.iter().map(|part| part.as_ref().to_vec())).collect()
+}
+
+#[test]
+fn the_same_seed_gives_the_same_cases() {
+    for index in [0, 1, 17, 123_456, u64::MAX] {
+        assert_eq!(case(SEED, index), case(SEED, index));
+    }
+    let differing = (0..1_000).filter(|&index| case(SEED, index) != case(SEED + 1, index)).count();
+    assert!(differing > 990, "{differing}");
+    let equal = (0..1_000).filter(|&index| case(SEED, index).text == case(SEED, index + 1).text).count();
+    assert!(equal < 30, "{equal}");
+}
+
+#[test]
+fn every_case_fits_the_replay_format() {
+    for index in 0..MANY {
+        let case = case(SEED, index);
+        assert!(case.words <= MOST_WORDS && case.text.len() <= MOST_BYTES && case.sheet.len() <= MOST_BYTES);
+        assert_eq!(case.id, index);
+    }
+}
+
+#[test]
+fn every_kind_of_token_is_written() {
+    assert_eq!(never(MANY, parts(&[WORDS, SIGNS, TIMES, DURATIONS, DECIMALS])), Vec::<String>::new());
+}
+
+#[test]
+fn every_kind_of_character_and_of_ill_formed_bytes_is_written() {
+    let characters: Vec<String> = SPACES.iter().chain(CHARACTERS).map(char::to_string).collect();
+    assert_eq!(never(MANY, parts(&[&characters])), Vec::<String>::new());
+    assert_eq!(never(MANY, parts(&[ILL_FORMED])), Vec::<String>::new());
+}
+
+#[test]
+fn bounds_are_met_and_passed() {
+    let bounds: Vec<String> = ["15", "16", "31", "32", "63", "64", "254", "255", "1023", "1024", "999ms", "1000ms", "1000000001"]
+        .map(String::from).to_vec();
+    assert_eq!(never(MANY, parts(&[&bounds])), Vec::<String>::new());
+}
+
+#[test]
+fn sizes_around_every_limit_come_up() {
+    let (mut lengths, mut words, mut rows) = (Vec::new(), Vec::new(), Vec::new());
+    for index in 0..MANY {
+        let case = case(SEED, index);
+        lengths.push(case.text.len());
+        words.push(case.words);
+        rows.push(case.sheet.iter().filter(|&&b| b == b'\n').count());
+    }
+    for length in [0, 16_383, 16_384, 16_385] {
+        assert!(lengths.contains(&length), "text of {length}");
+    }
+    for count in [0, 6_143, 6_144, 8_192] {
+        assert!(words.contains(&count), "{count} words");
+    }
+    assert!(rows.contains(&513) && rows.contains(&514), "512 and 513 rows");
+}
+
+/// What document 01 asks of a sheet, written plainly; the generator's good sheets meet it and its broken ones do not.
+fn well_formed(sheet: &[u8]) -> bool {
+    let body = sheet.strip_suffix(b"\n").unwrap_or(sheet);
+    let mut lines = body.split(|&b| b == b'\n');
+    let first = lines.next().unwrap_or_default().strip_prefix(b"primary,");
+    let rows: Vec<&[u8]> = lines.collect();
+    sheet.len() <= 16_384 && rows.len() <= 512 && first.is_some_and(|n| number(n, 255)) && rows.iter().all(|row| row_fits(row))
+}
+
+fn number(field: &[u8], last: usize) -> bool {
+    let plain = !field.is_empty() && field.iter().all(u8::is_ascii_digit) && (field.len() == 1 || field[0] != b'0');
+    plain && std::str::from_utf8(field).is_ok_and(|digits| digits.parse::<usize>().is_ok_and(|n| n <= last))
+}
+
+fn row_fits(row: &[u8]) -> bool {
+    let fields: Vec<&[u8]> = row.split(|&b| b == b',').collect();
+    match fields[..] {
+        [b"adapter", adapter] => number(adapter, 255),
+        [kind, adapter, n, name] => {
+            let last = match kind { b"group" => 15, b"lamp" | b"device" | b"input" => 63, _ => return false };
+            number(adapter, 255) && number(n, last) && (1..=48).contains(&name.len()) && !name.contains(&b'"')
+        }
+        _ => false,
+    }
+}
+
+#[test]
+fn good_sheets_are_well_formed() {
+    for index in 0..5_000 {
+        let sheet = sheet::good(&mut Rng::new(SEED, index));
+        assert!(well_formed(&sheet.bytes), "{index}");
+    }
+    assert!(well_formed(&sheet::longest()) && sheet::longest().len() == 16_384);
+    for length in 200..1_000 {
+        assert!(sheet::of_length(length).len() == length && well_formed(&sheet::of_length(length)), "{length}");
+    }
+}
+
+#[test]
+fn broken_sheets_are_broken_in_every_way() {
+    for which in 0..sheet::BREAKS {
+        for index in 0..20 {
+            let bytes = sheet::broken(&mut Rng::new(index, which as u64), which);
+            assert!(!well_formed(&bytes), "{which} {index}");
+        }
+    }
+}
+
+#[test]
+fn most_sheets_are_good_and_most_texts_short() {
+    let cases: Vec<Case> = (0..10_000).map(|index| case(SEED, index)).collect();
+    let good = cases.iter().filter(|case| well_formed(&case.sheet)).count();
+    let short = cases.iter().filter(|case| case.text.len() < 400).count();
+    assert!((9_000..9_900).contains(&good), "{good}");
+    assert!(short > 9_300, "{short}");
+}
+
+#[test]
+fn the_sequences_differ_and_hold_whole_forms() {
+    for length in 0..=2 {
+        let mut seen: Vec<(Vec<u8>, Vec<u8>)> = exhaustive(length).map(|case| (case.text, case.sheet)).collect();
+        assert_eq!(seen.len() as u64, exhaustive_count(length));
+        seen.sort();
+        seen.dedup();
+        assert!(seen.len() as u64 > exhaustive_count(length) * 3 / 4, "{length}: {}", seen.len());
+    }
+    let whole: [&[u8]; 3] = [b"when every 5s", b"when controller starts if sun is up", b"when lamp( \"b\" ) turns on"];
+    for text in whole {
+        assert!((0..=3).any(|length| exhaustive(length).any(|case| case.text == text)), "{}", text.escape_ascii());
+    }
+}
+
+#[test]
+fn landmarks_stand_at_the_limits() {
+    let landmarks = landmarks();
+    assert!(landmarks.iter().any(|case| case.text.len() == 16_384));
+    assert!(landmarks.iter().any(|case| case.text.len() == 16_385));
+    let rows = |case: &Case| case.sheet.split(|&b| b == b'\n').filter(|line| !line.is_empty()).count() - 1;
+    let with_sheet = || landmarks.iter().filter(|case| !case.sheet.is_empty());
+    assert!(with_sheet().any(|case| rows(case) == 512) && with_sheet().any(|case| rows(case) == 513));
+}

@@ -1,0 +1,70 @@
+//! The token buffer that a caller lends.
+
+use crate::lexer::Token;
+
+/// What every word holds before a call.
+const UNTOUCHED: u32 = u32::MAX;
+
+/// Words of one record: kind, number, start, length, line, column.
+const RECORD: usize = 6;
+
+pub struct Buffer {
+    words: Vec<u32>,
+}
+
+impl Buffer {
+    pub fn new(words: usize) -> Buffer {
+        Buffer { words: vec![UNTOUCHED; words] }
+    }
+
+    pub fn len(&self) -> usize {
+        self.words.len()
+    }
+
+    /// Writes the records of the tokens, one behind the other from the first word on.
+    pub fn write(&mut self, tokens: &[Token]) {
+        for (place, token) in self.words.chunks_exact_mut(RECORD).zip(tokens) {
+            place.copy_from_slice(&record(token));
+        }
+    }
+
+    /// The records, counted up to the first whose kind word is untouched.
+    pub fn records(&self) -> Vec<&[u32]> {
+        self.words.chunks_exact(RECORD).take_while(|record| record[0] != UNTOUCHED).collect()
+    }
+
+    /// Whether every word past the records is untouched.
+    pub fn kept(&self) -> bool {
+        let used = self.records().len() * RECORD;
+        self.words[used..].iter().all(|&word| word == UNTOUCHED)
+    }
+}
+
+/// A text of at most 16,384 bytes has no start, length, line or column that 32 bits cannot hold.
+fn record(token: &Token) -> [u32; RECORD] {
+    let word = |size: usize| u32::try_from(size).unwrap_or(UNTOUCHED);
+    let place = token.place;
+    [token.kind as u32, token.number, word(token.start), word(token.length), place.line, place.column]
+}
+
+#[cfg(test)]
+mod tests {
+    use super::*;
+
+    #[test]
+    fn a_word_past_the_records_is_seen() {
+        let mut buffer = Buffer::new(15);
+        assert!(buffer.kept());
+        buffer.words[..7].copy_from_slice(&[1, 0, 0, 1, 1, 1, 2]);
+        assert_eq!(buffer.records().len(), 2);
+        assert!(buffer.kept());
+        buffer.words[14] = 0;
+        assert!(!buffer.kept());
+        buffer.words[6] = UNTOUCHED;
+        buffer.words[14] = UNTOUCHED;
+        assert_eq!(buffer.records(), [&[1, 0, 0, 1, 1, 1]]);
+        assert!(buffer.kept());
+        buffer.words[7] = 0;
+        assert!(!buffer.kept());
+    }
+}

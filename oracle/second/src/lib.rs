@@ -1,0 +1,89 @@
+//! A second reader of document 01, in plain Rust and written from that document alone, for the comparison runs.
+
+mod buffer;
+mod conditions;
+mod lexer;
+mod model;
+mod print;
+mod reader;
+mod references;
+mod refusal;
+mod sections;
+mod sheet;
+mod triggers;
+mod values;
+
+use buffer::Buffer;
+use cases::Case;
+use model::Lists;
+use reader::{Read, Reader};
+use refusal::{Place, Refusal};
+
+const MOST_TEXT: usize = 16_384;
+const LEAST_WORDS: usize = 6_144;
+
+/// What one call leaves behind.
+struct Outcome<'a> {
+    buffer: Buffer,
+    result: Read<Lists<'a>>,
+    /// Whether lexing stopped at a duration of 20 or more fractional digits.
+    long_fraction: bool,
+}
+
+/// The answer to a case, in the replay format.
+pub fn answer(case: &Case) -> String {
+    let outcome = read(case);
+    print::answer(case.id, &outcome.buffer, &outcome.result)
+}
+
+/// Document 01's domain of the comparison: "accepted sheets, texts past questions 1 to 4 and 19, no duration of 20 or
+/// more fractional digits, and no text on which the Rust reaches a left-out form".
+pub fn in_domain(case: &Case) -> bool {
+    let outcome = read(case);
+    match outcome.result {
+        Ok(_) => true,
+        Err(refusal) => !matches!(refusal.number, 1..=4 | 19 | 40) && !outcome.long_fraction,
+    }
+}
+
+/// One call: the questions 1 to 4, the lexing of the whole text, then the parsing.
+fn read(case: &Case) -> Outcome<'_> {
+    let mut buffer = Buffer::new(case.words);
+    let (sheet, text) = match admit(case, &buffer) {
+        Ok(admitted) => admitted,
+        Err(refusal) => return Outcome { buffer, result: Err(refusal), long_fraction: false },
+    };
+    let lexed = lexer::lex(text);
+    buffer.write(&lexed.tokens);
+    match lexed.end {
+        Err(stop) => Outcome { buffer, result: Err(stop.refusal), long_fraction: stop.long_fraction },
+        Ok(end) => {
+            let result = Reader::new(text, lexed.tokens, end, sheet).sections();
+            Outcome { buffer, result, long_fraction: false }
+        }
+    }
+}
+
+/// The questions 1 to 4, in this order.
+fn admit<'a>(case: &'a Case, buffer: &Buffer) -> Read<(sheet::Sheet<'a>, &'a str)> {
+    if case.text.len() > MOST_TEXT {
+        return Err(Refusal::new(1, Place::NONE));
+    }
+    if buffer.len() < LEAST_WORDS {
+        return Err(Refusal::new(2, Place::NONE));
+    }
+    let sheet = sheet::read(&case.sheet).map_err(|line| Refusal::new(3, Place { line, column: 0 }))?;
+    let text = well_formed(&case.text).map_err(|place| Refusal::new(4, place))?;
+    Ok((sheet, text))
+}
+
+/// The text, or the first place where no UTF-8 sequence begins, counted in characters.
+fn well_formed(bytes: &[u8]) -> Result<&str, Place> {
+    std::str::from_utf8(bytes).map_err(|error| {
+        let before = String::from_utf8_lossy(&bytes[..error.valid_up_to()]);
+        before.chars().fold(Place::FIRST, Place::after)
+    })
+}
+
+#[cfg(test)]
+mod utf8_tests;

@@ -1,0 +1,137 @@
+//! The replay format (docs/REPLAY.md).
+
+use crate::buffer::Buffer;
+use crate::model::*;
+use crate::reader::Read;
+
+/// The answer to one case.
+pub fn answer(id: u64, buffer: &Buffer, result: &Read<Lists>) -> String {
+    let mut lines = vec![format!("case {id}")];
+    lines.extend(buffer.records().into_iter().map(token));
+    lines.push(format!("buffer {}", if buffer.kept() { "kept" } else { "changed" }));
+    match result {
+        Err(r) => lines.push(format!("refused {} {} {} {}", r.number, r.place.line, r.place.column, r.detail)),
+        Ok(lists) => {
+            lines.push(format!("accepted {} {}", lists.triggers.len(), lists.conditions.len()));
+            lines.extend(lists.triggers.iter().map(|t| format!("T {}", trigger(t))));
+            lines.extend(lists.conditions.iter().map(|c| format!("C {}", condition(c))));
+        }
+    }
+    lines.iter().map(|line| format!("{line}\n")).collect()
+}
+
+fn token(record: &[u32]) -> String {
+    record.iter().fold("token".to_string(), |line, word| format!("{line} {word}"))
+}
+
+/// NAME and TEXT: `x` and the bytes in lower-case hex.
+fn hex(bytes: &[u8]) -> String {
+    bytes.iter().fold("x".to_string(), |field, byte| format!("{field}{byte:02x}"))
+}
+
+fn reference(r: &Ref) -> String {
+    format!("{} {}", r.adapter, r.number)
+}
+
+fn instance(i: &Instance) -> String {
+    format!("{} {}", reference(&i.device), i.instance)
+}
+
+fn selector(s: &Selector) -> String {
+    match s {
+        Selector::Instance(i) => format!("instance {}", instance(i)),
+        Selector::Group { adapter, group, instance_type: Some(t) } => format!("group {adapter} {group} {t}"),
+        Selector::Group { adapter, group, instance_type: None } => format!("group {adapter} {group} -"),
+    }
+}
+
+fn event(e: &Event) -> String {
+    match e {
+        Event::Named(name) => name.to_string(),
+        Event::Raw(data) => format!("raw {data}"),
+    }
+}
+
+fn target(t: &Target) -> String {
+    match t {
+        Target::Lamp(r) => format!("lamp {}", reference(r)),
+        Target::Group(r) => format!("group {}", reference(r)),
+        Target::Broadcast(adapter) => format!("broadcast {adapter}"),
+    }
+}
+
+fn bound(b: &Bound) -> String {
+    match b {
+        Bound::Clock(minutes) => format!("clock {minutes}"),
+        Bound::Solar(s) => format!("solar {} {}", s.event, s.offset),
+    }
+}
+
+/// A reading is written as its first word and its property, and then its reference.
+fn reading(r: &Reading) -> String {
+    match r {
+        Reading::Lamp(lamp, property) => format!("lamp_{property} {}", reference(lamp)),
+        Reading::Group(group, property) => format!("group_{property} {}", reference(group)),
+        Reading::Input(input, property) => format!("input_{property} {}", instance(input)),
+        Reading::Plain(first, property) => format!("{first}_{property}"),
+        Reading::Var(name) => format!("var {}", hex(name)),
+    }
+}
+
+fn value(v: &Value) -> String {
+    match v {
+        Value::Literal(number) => format!("literal {number}"),
+        Value::Reading(r) => format!("reading {}", reading(r)),
+        Value::Offset(r, delta) => format!("offset {} {delta}", reading(r)),
+    }
+}
+
+fn trigger(t: &Trigger) -> String {
+    match t {
+        Trigger::InputEvent(s, e) => format!("input_event {} {}", selector(s), event(e)),
+        Trigger::InputOccupancy(i, state) => format!("input_occupancy {} {state}", instance(i)),
+        Trigger::InputLightCross(i, side, most) => format!("input_light_cross {} {side} {most}", instance(i)),
+        Trigger::InputPositionChange(i) => format!("input_position_change {}", instance(i)),
+        Trigger::InputDevicePowerCycled(r) => format!("input_device_power_cycled {}", reference(r)),
+        Trigger::InputDeviceManualConfigChanged(r) => {
+            format!("input_device_manual_config_changed {}", reference(r))
+        }
+        Trigger::At(Bound::Clock(minutes)) => format!("at_time {minutes}"),
+        Trigger::At(Bound::Solar(s)) => format!("at_solar {} {}", s.event, s.offset),
+        Trigger::Every(ms) => format!("every {ms}"),
+        Trigger::LampTurns(r, state) => format!("lamp_turns {} {state}", reference(r)),
+        Trigger::LampLevelCross(r, side, level) => format!("lamp_level_cross {} {side} {level}", reference(r)),
+        Trigger::GroupBecomes(r, state) => format!("group_becomes {} {state}", reference(r)),
+        Trigger::SceneRecalled { adapter, scene } => format!("scene_recalled {adapter} {scene}"),
+        Trigger::DeviceGoesOffline(r) => format!("device_online {} goes_offline", reference(r)),
+        Trigger::DeviceComesOnline(r) => format!("device_online {} comes_online", reference(r)),
+        Trigger::HclOverride(t, change) => format!("hcl_override {} {change}", target(t)),
+        Trigger::TimerFires(name) => format!("timer_fires {}", hex(name)),
+        Trigger::ControllerStarts => "controller_starts".to_string(),
+        Trigger::ControllerBecomesActive => "controller_becomes_active".to_string(),
+        Trigger::RuleFails(name) => format!("rule_fails {}", hex(name)),
+        Trigger::Http => "http_trigger".to_string(),
+    }
+}
+
+fn condition(c: &Condition) -> String {
+    match c {
+        Condition::TimeInRange(from, to) => format!("time_in_range {} {}", bound(from), bound(to)),
+        Condition::SunIs(state) => format!("sun_is {state}"),
+        Condition::LampIs(r, state) => format!("lamp_is {} {state}", reference(r)),
+        Condition::LampCompare(r, property, cmp, v) => {
+            format!("lamp_{property} {} {cmp} {}", reference(r), value(v))
+        }
+        Condition::GroupState(r, state) => format!("group_state {} {state}", reference(r)),
+        Condition::InputOccupancy(i, state) => format!("input_occupancy {} {state}", instance(i)),
+        Condition::InputLight(i, side, v) => format!("input_light {} {side} {}", instance(i), value(v)),
+        Condition::HclState(t, state) => format!("hcl_state {} {state}", target(t)),
+        Condition::DeviceOnline(r) => format!("device_online {}", reference(r)),
+        Condition::RuleEnabled(name) => format!("rule_enabled {}", hex(name)),
+        Condition::LastFiredOlderThan(name, ms) => format!("last_fired_older_than {} {ms}", hex(name)),
+        Condition::TimerRunning(name) => format!("timer_running {}", hex(name)),
+        Condition::ControllerActive => "controller_active".to_string(),
+        Condition::VarText(name, cmp, text) => format!("var_compare {} {cmp} text {}", hex(name), hex(text)),
+        Condition::VarValue(name, cmp, v) => format!("var_compare {} {cmp} value {}", hex(name), value(v)),
+    }
+}

@@ -1,0 +1,218 @@
+//! References: R, DEV, ARGS and TARGET, and how a name's rows are judged.
+
+use crate::lexer::{Kind as TokenKind, Token};
+use crate::model::{Instance, Ref, Selector, Target};
+use crate::reader::{in_range, Read, Reader};
+use crate::refusal::{Place, Refusal};
+use crate::sheet::{Kind, Row};
+
+const HIGHEST_ADAPTER: u32 = 255;
+/// The highest instance, instance group and instance type.
+const HIGHEST_OF_ARGS: u32 = 31;
+const MOST_UNNAMED: usize = 2;
+
+/// The arguments of ARGS, each the last that was given. The dev and the group keep their tokens for later questions.
+#[derive(Default)]
+struct Arguments {
+    dev: Option<Token>,
+    inst: Option<u32>,
+    group: Option<Token>,
+    instance_type: Option<u32>,
+    adapter: Option<u32>,
+    unnamed: usize,
+}
+
+impl<'a> Reader<'a> {
+    /// R: name or id, perhaps an adapter clause. Judged after `)`.
+    pub fn reference(&mut self, kind: Kind) -> Read<Ref> {
+        self.expect(TokenKind::Open)?;
+        let token = self.name_or_id()?;
+        self.rest_of_reference(kind, token)
+    }
+
+    /// The parentheses of `input device`: perhaps `dev =`, DEV, perhaps an adapter clause.
+    pub fn input_device(&mut self) -> Read<Ref> {
+        self.expect(TokenKind::Open)?;
+        if self.take_word("dev") {
+            self.expect(TokenKind::Assign)?;
+        }
+        let token = self.name_or_id()?;
+        self.rest_of_reference(Kind::Input, token)
+    }
+
+    /// "An id's range and a name's rows are judged after the adapter clause and `)`."
+    fn rest_of_reference(&mut self, kind: Kind, token: Token) -> Read<Ref> {
+        let adapter = self.adapter_clause()?;
+        self.expect(TokenKind::Close)?;
+        self.judge(kind, token, adapter)
+    }
+
+    /// A name, held to 23 and 24 at once, or an id, whose range is judged later.
+    fn name_or_id(&mut self) -> Read<Token> {
+        if self.at_kind(TokenKind::String) { self.name() } else { self.expect(TokenKind::Integer) }
+    }
+
+    /// Perhaps `, adapter = A`.
+    pub fn adapter_clause(&mut self) -> Read<Option<u32>> {
+        if !self.take_kind(TokenKind::Comma) {
+            return Ok(None);
+        }
+        self.expect_word("adapter")?;
+        self.expect(TokenKind::Assign)?;
+        self.adapter().map(Some)
+    }
+
+    /// A: in range, 22; listed, 25; both at the number.
+    fn adapter(&mut self) -> Read<u32> {
+        let place = self.place();
+        let adapter = self.integer(HIGHEST_ADAPTER)?;
+        if self.sheet.listed.contains(&adapter) { Ok(adapter) } else { Err(Refusal::new(25, place)) }
+    }
+
+    /// "An id, address, scene or instance group without an adapter takes the primary."
+    pub fn or_primary(&self, adapter: Option<u32>) -> u32 {
+        adapter.unwrap_or(self.sheet.primary)
+    }
+
+    /// The range of an id, or the rows of a name.
+    fn judge(&self, kind: Kind, token: Token, adapter: Option<u32>) -> Read<Ref> {
+        if token.kind == TokenKind::String {
+            return self.look_up(kind, token, adapter);
+        }
+        let number = in_range(token, kind.highest())?;
+        Ok(Ref { adapter: self.or_primary(adapter), number })
+    }
+
+    /// 31 to 34, at the name.
+    fn look_up(&self, kind: Kind, token: Token, adapter: Option<u32>) -> Read<Ref> {
+        let name = self.bytes(token);
+        let named = |row: &&Row| row.kind == kind && row.name == name;
+        let rows: Vec<&Row> = self.sheet.rows.iter().filter(named).collect();
+        let Some(first) = rows.first() else {
+            return Err(Refusal::new(31, token.place));
+        };
+        let in_scope = |row: &&&Row| adapter.is_none_or(|adapter| row.adapter == adapter);
+        let scope: Vec<&Row> = rows.iter().filter(in_scope).copied().collect();
+        match scope[..] {
+            [] => Err(Refusal::with_detail(32, token.place, first.adapter)),
+            [row] => Ok(Ref { adapter: row.adapter, number: row.number }),
+            [..] => Err(more_than_one(&scope, token.place)),
+        }
+    }
+
+    /// TARGET: lamp R, group R or broadcast. A word that fits none of them is 20.
+    pub fn target(&mut self) -> Read<Target> {
+        if self.take_word("lamp") {
+            return self.reference(Kind::Lamp).map(Target::Lamp);
+        }
+        if self.take_word("group") {
+            return self.reference(Kind::Group).map(Target::Group);
+        }
+        self.expect_word("broadcast")?;
+        Ok(Target::Broadcast(self.sheet.primary))
+    }
+
+    /// ARGS, and the place of its `(`, at which 30 is refused.
+    pub fn selector(&mut self) -> Read<(Selector, Place)> {
+        let open = self.expect(TokenKind::Open)?.place;
+        let mut arguments = Arguments::default();
+        loop {
+            self.argument(&mut arguments)?;
+            if !self.take_kind(TokenKind::Comma) {
+                break;
+            }
+        }
+        let close = self.expect(TokenKind::Close)?.place;
+        Ok((self.selected(&arguments, close)?, open))
+    }
+
+    /// ARGS where the form needs one instance; 30 is asked after `)`.
+    pub fn instance(&mut self) -> Read<Instance> {
+        let (selector, open) = self.selector()?;
+        one_instance(selector, open)
+    }
+
+    /// One argument; "a repeated argument replaces the earlier one".
+    fn argument(&mut self, arguments: &mut Arguments) -> Read<()> {
+        if !self.at_key() {
+            return self.unnamed_argument(arguments);
+        }
+        let (key, place) = self.any_word()?;
+        self.expect(TokenKind::Assign)?;
+        match key {
+            b"dev" => arguments.dev = Some(self.name_or_id()?),
+            b"inst" => arguments.inst = Some(self.integer(HIGHEST_OF_ARGS)?),
+            b"group" => arguments.group = Some(self.instance_group()?),
+            b"type" => arguments.instance_type = Some(self.instance_type()?),
+            b"adapter" => arguments.adapter = Some(self.adapter()?),
+            _ => return Err(Refusal::new(21, place)),
+        }
+        Ok(())
+    }
+
+    /// "Unnamed ones are dev, then inst"; 26 is asked before the third one's token is judged.
+    fn unnamed_argument(&mut self, arguments: &mut Arguments) -> Read<()> {
+        if arguments.unnamed == MOST_UNNAMED {
+            return self.refuse(26);
+        }
+        if arguments.unnamed == 0 {
+            arguments.dev = Some(self.name_or_id()?);
+        } else {
+            arguments.inst = Some(self.integer(HIGHEST_OF_ARGS)?);
+        }
+        arguments.unnamed += 1;
+        Ok(())
+    }
+
+    fn instance_group(&mut self) -> Read<Token> {
+        let token = self.expect(TokenKind::Integer)?;
+        in_range(token, HIGHEST_OF_ARGS)?;
+        Ok(token)
+    }
+
+    /// A type: 0 to 31, or any word taken and compared with the four.
+    fn instance_type(&mut self) -> Read<u32> {
+        if !self.at_kind(TokenKind::Word) {
+            return self.integer(HIGHEST_OF_ARGS);
+        }
+        let (word, place) = self.any_word()?;
+        match word {
+            b"button" => Ok(1),
+            b"absolute" => Ok(2),
+            b"occupancy" => Ok(3),
+            b"light" => Ok(4),
+            _ => Err(Refusal::new(21, place)),
+        }
+    }
+
+    /// 27, 28 and 29, then the dev's range or rows. "Type counts only with group."
+    fn selected(&self, arguments: &Arguments, close: Place) -> Read<Selector> {
+        if let Some(group) = arguments.group {
+            if arguments.dev.is_some() || arguments.inst.is_some() {
+                return Err(Refusal::new(27, group.place));
+            }
+            let adapter = self.or_primary(arguments.adapter);
+            let instance_type = arguments.instance_type;
+            return Ok(Selector::Group { adapter, group: group.number, instance_type });
+        }
+        let dev = arguments.dev.ok_or(Refusal::new(28, close))?;
+        let instance = arguments.inst.ok_or(Refusal::new(29, close))?;
+        let device = self.judge(Kind::Input, dev, arguments.adapter)?;
+        Ok(Selector::Instance(Instance { device, instance }))
+    }
+}
+
+/// 33, or 34 if the rows in scope span adapters; detail their count.
+fn more_than_one(scope: &[&Row], place: Place) -> Refusal {
+    let spans = scope.iter().any(|row| row.adapter != scope[0].adapter);
+    let count = u32::try_from(scope.len()).unwrap_or(u32::MAX);
+    Refusal::with_detail(if spans { 34 } else { 33 }, place, count)
+}
+
+/// 30, at `(`.
+pub fn one_instance(selector: Selector, open: Place) -> Read<Instance> {
+    match selector {
+        Selector::Instance(instance) => Ok(instance),
+        Selector::Group { .. } => Err(Refusal::new(30, open)),
+    }
+}

@@ -1,0 +1,102 @@
+//! The name sheet.
+
+const MOST_BYTES: usize = 16_384;
+const MOST_ROWS: usize = 512;
+const MOST_NAME: usize = 48;
+
+/// What a row names, and what a reference points at.
+#[derive(Debug, Clone, Copy, PartialEq, Eq)]
+pub enum Kind {
+    Lamp,
+    Group,
+    Device,
+    Input,
+}
+
+impl Kind {
+    /// The highest number of this kind, in a row as in a reference.
+    pub fn highest(self) -> u32 {
+        match self {
+            Kind::Group => 15,
+            Kind::Lamp | Kind::Device | Kind::Input => 63,
+        }
+    }
+
+    fn of(field: &[u8]) -> Option<Kind> {
+        match field {
+            b"lamp" => Some(Kind::Lamp),
+            b"group" => Some(Kind::Group),
+            b"device" => Some(Kind::Device),
+            b"input" => Some(Kind::Input),
+            _ => None,
+        }
+    }
+}
+
+/// A row `K,A,N,name`.
+#[derive(Debug, Clone, Copy, PartialEq, Eq)]
+pub struct Row<'a> {
+    pub kind: Kind,
+    pub adapter: u32,
+    pub number: u32,
+    pub name: &'a [u8],
+}
+
+#[derive(Debug, Default)]
+pub struct Sheet<'a> {
+    pub primary: u32,
+    /// The adapters of the `adapter` rows: only these are listed.
+    pub listed: Vec<u32>,
+    pub rows: Vec<Row<'a>>,
+}
+
+/// Reads the sheet, or gives its first bad line: 0 if it is too long, 1 if empty, the 513th row's if there are more.
+pub fn read(bytes: &[u8]) -> Result<Sheet<'_>, u32> {
+    if bytes.len() > MOST_BYTES {
+        return Err(0);
+    }
+    let mut sheet = Sheet::default();
+    // "Lines end with LF, the last may lack it": behind a last LF no further line begins.
+    let lines = bytes.strip_suffix(b"\n").unwrap_or(bytes);
+    for (before, line) in (0..).zip(lines.split(|&b| b == b'\n')) {
+        if before > MOST_ROWS || !sheet.add(before, line) {
+            return Err(u32::try_from(before + 1).unwrap_or(u32::MAX));
+        }
+    }
+    Ok(sheet)
+}
+
+impl<'a> Sheet<'a> {
+    /// Takes a line with `before` lines before it; false if it is not well formed.
+    fn add(&mut self, before: usize, line: &'a [u8]) -> bool {
+        let fields: Vec<&[u8]> = line.split(|&b| b == b',').collect();
+        match fields[..] {
+            [b"primary", adapter] if before == 0 => decimal(adapter, 255).map(|a| self.primary = a).is_some(),
+            _ if before == 0 => false,
+            [b"adapter", adapter] => decimal(adapter, 255).map(|a| self.listed.push(a)).is_some(),
+            [kind, adapter, number, name] => {
+                row(kind, adapter, number, name).map(|row| self.rows.push(row)).is_some()
+            }
+            _ => false,
+        }
+    }
+}
+
+fn row<'a>(kind: &[u8], adapter: &[u8], number: &[u8], name: &'a [u8]) -> Option<Row<'a>> {
+    let kind = Kind::of(kind)?;
+    let adapter = decimal(adapter, 255)?;
+    let number = decimal(number, kind.highest())?;
+    let fits = (1..=MOST_NAME).contains(&name.len()) && !name.contains(&b'"');
+    fits.then_some(Row { kind, adapter, number, name })
+}
+
+/// A decimal number of at most `most` (which has at most three digits), without a leading zero.
+fn decimal(field: &[u8], most: u32) -> Option<u32> {
+    let digits = (1..=3).contains(&field.len()) && field.iter().all(u8::is_ascii_digit);
+    let leading_zero = field.len() > 1 && field[0] == b'0';
+    if !digits || leading_zero {
+        return None;
+    }
+    let value = field.iter().fold(0, |sum, digit| sum * 10 + u32::from(digit - b'0'));
+    (value <= most).then_some(value)
+}

@@ -1,0 +1,152 @@
+//! The supplied Rust, unmodified, answering cases of the replay format (docs/REPLAY.md).
+//!
+//! STAND-INS.md says which part of an answer comes from the supplied Rust and which from the code here.
+
+include!(concat!(env!("OUT_DIR"), "/tree.rs"));
+
+#[cfg(test)]
+mod forms;
+mod left_out;
+mod messages;
+mod places;
+mod sheet;
+mod shown;
+mod tokens;
+
+use crate::cursor::Cursor;
+use crate::lexer::{Lexed, Pos};
+use crate::sheet::Sheet;
+use crate::tokens::Record;
+use dali2rust_rules_model::{Condition, Trigger};
+use std::fmt::Write;
+
+/// The longest text, and the smallest token buffer, that document 01 allows.
+const MOST_TEXT_BYTES: usize = 16_384;
+const LEAST_WORDS: usize = 6_144;
+
+/// Why a text is not taken: the number, place and detail of document 01.
+#[derive(Debug, Clone, Copy, PartialEq, Eq)]
+pub(crate) struct Refusal {
+    pub number: u32,
+    pub line: u32,
+    pub column: u32,
+    pub detail: u32,
+}
+
+impl Refusal {
+    fn at(number: u32, pos: Pos) -> Refusal {
+        Refusal { number, line: pos.line, column: pos.column, detail: 0 }
+    }
+}
+
+/// What the reader is to say of a case, behind its token records.
+pub(crate) enum Verdict {
+    Refused(Refusal),
+    Accepted(Vec<Trigger>, Vec<Condition>),
+    /// The supplied Rust has no answer that could be compared.
+    OutsideTheDomain,
+}
+
+/// The text that the replay format orders for the case: its token records, then the refusal or the two lists.
+///
+/// A case on which the supplied Rust would overflow has the one line `outside the domain` instead.
+pub fn answer(case: &cases::Case) -> String {
+    let (records, verdict) = judged(case);
+    let mut out = format!("case {}\n", case.id);
+    if let Verdict::OutsideTheDomain = verdict {
+        out += "outside the domain\n";
+        return out;
+    }
+    for r in &records {
+        line(&mut out, format_args!("token {} {} {} {} {} {}", r.kind, r.number, r.start, r.length, r.line, r.column));
+    }
+    out += "buffer kept\n";
+    match verdict {
+        Verdict::Refused(r) => {
+            line(&mut out, format_args!("refused {} {} {} {}", r.number, r.line, r.column, r.detail));
+        }
+        Verdict::Accepted(triggers, conditions) => lists(&mut out, &triggers, &conditions),
+        Verdict::OutsideTheDomain => unreachable!("answered above"),
+    }
+    out
+}
+
+fn line(out: &mut String, text: std::fmt::Arguments<'_>) {
+    writeln!(out, "{text}").expect("a string takes any text");
+}
+
+fn lists(out: &mut String, triggers: &[Trigger], conditions: &[Condition]) {
+    line(out, format_args!("accepted {} {}", triggers.len(), conditions.len()));
+    for trigger in triggers {
+        line(out, format_args!("T {}", shown::trigger(trigger)));
+    }
+    for condition in conditions {
+        line(out, format_args!("C {}", shown::condition(condition)));
+    }
+}
+
+/// The records that the call writes, and the verdict. Questions 1 to 4 write no record.
+fn judged(case: &cases::Case) -> (Vec<Record>, Verdict) {
+    let refused = |refusal| (Vec::new(), Verdict::Refused(refusal));
+    let nowhere = |number| Refusal { number, line: 0, column: 0, detail: 0 };
+    if case.text.len() > MOST_TEXT_BYTES {
+        return refused(nowhere(1));
+    }
+    if case.words < LEAST_WORDS {
+        return refused(nowhere(2));
+    }
+    let sheet = match Sheet::read(&case.sheet) {
+        Ok(sheet) => sheet,
+        Err(line) => return refused(Refusal { number: 3, line, column: 0, detail: 0 }),
+    };
+    let text = match places::utf8(&case.text) {
+        Ok(text) => text,
+        Err(pos) => return refused(Refusal::at(4, pos)),
+    };
+    let read = tokens::read(text);
+    let verdict = match read.end {
+        tokens::End::Refused(refusal) => Verdict::Refused(refusal),
+        tokens::End::Overflow => Verdict::OutsideTheDomain,
+        tokens::End::Lexed(lexed) => parsed(lexed, &sheet),
+    };
+    (read.records, verdict)
+}
+
+/// What is said once every token is read: 40 for a left-out form that the supplied Rust comes to, else what its two
+/// sections say, else 41 for a token behind them.
+fn parsed(lexed: Lexed, sheet: &Sheet) -> Verdict {
+    if let Some(pos) = left_out::first_reached(&lexed, sheet) {
+        return Verdict::Refused(Refusal::at(40, pos));
+    }
+    let mut cursor = Cursor::new(lexed, sheet);
+    match parser::action::sections(&mut cursor) {
+        Err(error) => Verdict::Refused(messages::refusal(&error)),
+        Ok(_) if cursor.peek().is_some() => Verdict::Refused(Refusal::at(41, cursor.here())),
+        Ok((triggers, conditions)) => Verdict::Accepted(triggers, conditions),
+    }
+}
+
+/// The supplied files as they stand in docs/src, and as they were built, for the tests.
+#[cfg(test)]
+macro_rules! sources {
+    ($($file:literal)*) => {
+        pub(crate) const SOURCES: &[(&str, &str)] = &[$((
+            include_str!(concat!(env!("OUT_DIR"), "/lang/", $file)),
+            include_str!(concat!("../../../docs/src/crates/dali2rust-rules-lang/src/", $file)),
+        )),*];
+    };
+}
+
+#[cfg(test)]
+sources! {
+    "lexer.rs" "cursor.rs" "parser/mod.rs" "parser/condition.rs" "parser/expr.rs" "parser/refs.rs"
+    "parser/timeval.rs" "parser/trigger.rs"
+}
+
+#[cfg(test)]
+mod tests {
+    #[test]
+    fn the_supplied_files_are_built_unmodified() {
+        assert!(crate::SOURCES.iter().all(|(built, supplied)| built == supplied));
+    }
+}

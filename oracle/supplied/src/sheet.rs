@@ -1,0 +1,138 @@
+//! The name sheet of document 01, and the names that it gives to the supplied Rust.
+
+use dali2rust_rules_model::{DeviceRef, GroupRef, InputDeviceRef, LampRef, NameResolver};
+
+const MOST_BYTES: usize = 16_384;
+const MOST_ROWS: usize = 512;
+const MOST_NAME_BYTES: usize = 48;
+
+#[derive(Debug, Clone, Copy, PartialEq, Eq)]
+enum Kind {
+    Lamp,
+    Group,
+    Device,
+    Input,
+}
+
+/// A row that names something. The name is kept as bytes: it need not be UTF-8.
+struct Named {
+    kind: Kind,
+    adapter: u8,
+    number: u8,
+    name: Vec<u8>,
+}
+
+/// A well-formed sheet, its rows in their order.
+pub struct Sheet {
+    primary: u8,
+    listed: Vec<u8>,
+    named: Vec<Named>,
+}
+
+/// A decimal number without a leading zero, at most `most`.
+fn number(field: &[u8], most: u8) -> Option<u8> {
+    let plain = field == b"0" || (field.first() != Some(&b'0') && field.iter().all(u8::is_ascii_digit));
+    if !plain {
+        return None;
+    }
+    std::str::from_utf8(field).ok()?.parse().ok().filter(|&n| n <= most)
+}
+
+fn kind(field: &[u8]) -> Option<(Kind, u8)> {
+    match field {
+        b"lamp" => Some((Kind::Lamp, 63)),
+        b"group" => Some((Kind::Group, 15)),
+        b"device" => Some((Kind::Device, 63)),
+        b"input" => Some((Kind::Input, 63)),
+        _ => None,
+    }
+}
+
+fn fields(line: &[u8]) -> Vec<&[u8]> {
+    line.split(|&b| b == b',').collect()
+}
+
+fn primary(line: &[u8]) -> Option<u8> {
+    match fields(line)[..] {
+        [b"primary", adapter] => number(adapter, 255),
+        _ => None,
+    }
+}
+
+/// The lines of a sheet: each ends with LF, which the last may lack. An empty sheet is one empty line.
+fn lines(bytes: &[u8]) -> impl Iterator<Item = &[u8]> {
+    bytes.strip_suffix(b"\n").unwrap_or(bytes).split(|&b| b == b'\n')
+}
+
+impl Sheet {
+    /// The sheet, or its first bad line (0 if the sheet is too long).
+    pub fn read(bytes: &[u8]) -> Result<Sheet, u32> {
+        if bytes.len() > MOST_BYTES {
+            return Err(0);
+        }
+        let mut sheet = Sheet { primary: 0, listed: Vec::new(), named: Vec::new() };
+        for (line, number) in lines(bytes).zip(1u32..) {
+            let taken = match number {
+                1 => primary(line).map(|adapter| sheet.primary = adapter),
+                _ => sheet.row(line),
+            };
+            taken.ok_or(number)?;
+        }
+        Ok(sheet)
+    }
+
+    /// Takes in a row; nothing if it is bad or one too many.
+    fn row(&mut self, line: &[u8]) -> Option<()> {
+        if self.listed.len() + self.named.len() == MOST_ROWS {
+            return None;
+        }
+        match fields(line)[..] {
+            [b"adapter", adapter] => self.listed.push(number(adapter, 255)?),
+            [word, adapter, id, name] => {
+                let (kind, most) = kind(word)?;
+                let (adapter, number) = (number(adapter, 255)?, number(id, most)?);
+                if name.is_empty() || name.len() > MOST_NAME_BYTES || name.contains(&b'"') {
+                    return None;
+                }
+                self.named.push(Named { kind, adapter, number, name: name.to_vec() });
+            }
+            _ => return None,
+        }
+        Some(())
+    }
+
+    /// Every row of the kind and name, made into a reference from its adapter and number.
+    fn rows<T>(&self, kind: Kind, name: &str, make: fn(u8, u8) -> T) -> Vec<T> {
+        let wanted = |row: &&Named| row.kind == kind && row.name == name.as_bytes();
+        self.named.iter().filter(wanted).map(|row| make(row.adapter, row.number)).collect()
+    }
+}
+
+impl NameResolver for Sheet {
+    fn primary_adapter(&self) -> u8 {
+        self.primary
+    }
+
+    fn adapter_exists(&self, adapter: u8) -> bool {
+        self.listed.contains(&adapter)
+    }
+
+    fn resolve_lamp(&self, name: &str) -> Vec<LampRef> {
+        self.rows(Kind::Lamp, name, |adapter_id, id| LampRef { adapter_id, id: id.into() })
+    }
+
+    fn resolve_group(&self, name: &str) -> Vec<GroupRef> {
+        self.rows(Kind::Group, name, |adapter_id, id| GroupRef { adapter_id, id: id.into() })
+    }
+
+    fn resolve_device(&self, name: &str) -> Vec<DeviceRef> {
+        self.rows(Kind::Device, name, |adapter_id, short_address| DeviceRef { adapter_id, short_address })
+    }
+
+    fn resolve_input_device(&self, name: &str) -> Vec<InputDeviceRef> {
+        self.rows(Kind::Input, name, |adapter_id, device_short_address| InputDeviceRef {
+            adapter_id,
+            device_short_address,
+        })
+    }
+}

@@ -1,0 +1,6 @@
+//! What `answer` says, against document 01.
+
+mod first_questions;
+mod pairs;
+mod settled;
+mod told;
