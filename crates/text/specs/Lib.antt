@@ -1,4 +1,5 @@
 pub mod Choice
+pub mod Literal
 pub mod Rfc3629
 pub mod Utf8
 pub mod White

@@ -1,0 +1,32 @@
+use mathlib.Core.Path.{_≡_, refl}
+use Prim.Native.Nat.{_-_}
+use lib.ListN.{length}
+use borrow.Author.Needs.{needs}
+use Rattle.text.specs.Utf8.{chars}
+use Rattle.tokens.specs.Scan.{quoted}
+use Rattle.tokens.proofs.ScanLaws.{scans}
+use Rattle.tokens.proofs.scan.string_end.Statement.{statement}
+use Rattle.tokens.proofs.scan.string_end.Tie as tie
+
+-- the string from here ends as the string from the start does
+abbrev Inv-loop : tie.InvT-loop
+Inv-loop s p₀ p = quoted p (chars s (p .at)) ≡ quoted p₀ (chars s (p₀ .at))
+
+abbrev μ-loop : tie.MeasureT-loop
+μ-loop s p₀ p = length s - p .at
+
+pub string-end-spec : {M : Type 1} → statement M
+string-end-spec =
+    tie.close
+    (tie.spec
+    Inv-loop
+    μ-loop
+    (λ c. refl)
+    (λ c κs. search needs)
+    (λ c. search needs)
+    (λ c. search scans)
+    (λ c. search scans)
+    (λ c. search needs)
+    (λ c. search scans)
+    (λ c. search scans)
+    (λ c. search scans))

@@ -1,0 +1,86 @@
+-- What tokens a text gives, and how that ends (document 01, questions 10 to 19).
+use Prim.Native.Nat.{ℕ, zero, suc, _+_, _-_}
+use mathlib.Core.List.{List, [], _∷_}
+use lib.ListN.{length}
+use lib.Dec.{ltb}
+use Rattle.text.specs.Choice.{pick}
+use Rattle.text.specs.Utf8.{chars}
+use Rattle.text.specs.Place.{counted, start}
+use Rattle.text.specs.declared.place.Place.{Place}
+use Rattle.text.specs.declared.place.Step.{Step}
+use Rattle.text.specs.declared.place.Step.the-variants.{Next, Stop}
+use Rattle.tokens.specs.Scan.{trivia}
+use Rattle.tokens.specs.Token.{look, tokenAt}
+use Rattle.tokens.specs.Record.{written}
+use Rattle.tokens.specs.declared.lexer.Lexeme.{Lexeme}
+use Rattle.tokens.specs.declared.lexer.Lexeme.the-variants.{Token}
+use Rattle.tokens.specs.declared.record.Record.{Record}
+use Rattle.tokens.specs.declared.lexer.Lexed.{Lexed}
+use Rattle.tokens.specs.declared.lexer.Lexed.the-variants.{Tokens, Refused}
+
+-- the record of a token: its bytes, and the place where it begins
+unfoldable pub recordOf : ℕ → ℕ → ℕ → ℕ → Place → Record
+recordOf kind number start end p =
+    record {
+      kind = kind;
+      number = number;
+      start = counted start;
+      length = counted (end - start);
+      line = p .line;
+      column = p .column;
+    }
+
+-- the records of a text, in order, and behind them how lexing ends: at the place of the text's end, or refused at a place
+pub data Lexing : Type 0 where
+  ended : Place → Lexing
+  refused : ℕ → Place → Lexing
+  token : Record → Lexing → Lexing
+
+abbrev pub lexeme : Place → Lexeme → (Place → Lexing) → Lexing
+lexeme p (Token kind number start end next) rest = token (recordOf kind number start end p) (rest next)
+lexeme p (Lexeme.Refused number) rest = refused number p
+
+abbrev pub lexAt : List ℕ → Place → Step → (Place → Lexing) → Lexing
+lexAt s p (Next c next) rest = lexeme p (tokenAt s p c next) rest
+lexAt s p Stop rest = ended p
+
+-- "A 1,025th token absent? 19, asked before that token is read."
+abbrev pub lexNoMore : Place → Step → Lexing
+lexNoMore p (Next c next) = refused 19 p
+lexNoMore p Stop = ended p
+
+-- behind white space and comments
+abbrev pub behind : List ℕ → Place → Place
+behind s p = trivia 0 p (chars s (p .at))
+
+-- the tokens of s from p on, of which n may still come
+unfoldable pub lexFrom : ℕ → List ℕ → Place → Lexing
+lexFrom zero s p = lexNoMore (behind s p) (look s (behind s p))
+lexFrom (suc n) s p = lexAt s (behind s p) (look s (behind s p)) (lexFrom n s)
+
+-- at most 1,024 tokens
+unfoldable pub lexText : List ℕ → Lexing
+lexText s = lexFrom 1024 s start
+
+-- the answer to a caller: with the count of the tokens and the end's place, or the refusal; n tokens came before
+unfoldable pub answerFrom : ℕ → Lexing → Lexed
+answerFrom n (ended p) = Tokens n (p .line) (p .column)
+answerFrom n (refused number p) = Refused number (p .line) (p .column)
+answerFrom n (token r l) = answerFrom (n + 1) l
+
+-- the words with the records written from the index i on
+unfoldable pub writtenFrom : ℕ → List ℕ → Lexing → List ℕ
+writtenFrom i words (ended p) = words
+writtenFrom i words (refused number p) = words
+writtenFrom i words (token r l) = writtenFrom (i + 1) (written words i r) l
+
+-- the answer and the words at exit, with questions 1 and 2 first: text at most 16,384 bytes, at least 6,144 words
+unfoldable pub lexAnswer : List ℕ → List ℕ → Lexed
+lexAnswer s words =
+    pick (ltb 16384 (length s)) (Refused 1 0 0)
+    (pick (ltb (length words) 6144) (Refused 2 0 0) (answerFrom 0 (lexText s)))
+
+unfoldable pub lexWords : List ℕ → List ℕ → List ℕ
+lexWords s words =
+    pick (ltb 16384 (length s)) words
+    (pick (ltb (length words) 6144) words (writtenFrom 0 words (lexText s)))

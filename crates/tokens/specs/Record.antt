@@ -1,0 +1,48 @@
+-- Token records in the lent words: six words each, kind, number, start, length, line, column (document 01, "Tokens and places").
+-- Only this file and src/record.rt know the layout.
+use Prim.Native.Nat.{ℕ, _+_, _-_, _*_, _/_}
+use mathlib.Core.List.{List, [], _∷_}
+use lib.ListN.{length, getD}
+use lib.Seq.{sets}
+use lib.Dec.{ltb}
+use Rattle.text.specs.Choice.{pick}
+use Rattle.text.specs.Part.{partOf}
+use Rattle.tokens.specs.declared.record.Record.{Record}
+
+-- how many whole records the words hold
+unfoldable pub capacity : List ℕ → ℕ
+capacity words = length words / 6
+
+-- the six words of a record
+unfoldable pub wordsOf : Record → List ℕ
+wordsOf r = r .kind ∷ r .number ∷ r .start ∷ r .length ∷ r .line ∷ r .column ∷ []
+
+-- the words with a record written at an index; unchanged where there is no room
+unfoldable pub written : List ℕ → ℕ → Record → List ℕ
+written words i r = pick (ltb i (capacity words)) (sets words (i * 6) (wordsOf r)) words
+
+-- the word k of the record at an index; 0 where there is none
+unfoldable pub wordAt : List ℕ → ℕ → ℕ → ℕ
+wordAt words i k = pick (ltb i (capacity words)) (getD words (i * 6 + k) 0) 0
+
+unfoldable pub kindAt : List ℕ → ℕ → ℕ
+kindAt words i = wordAt words i 0
+
+unfoldable pub numberAt : List ℕ → ℕ → ℕ
+numberAt words i = wordAt words i 1
+
+unfoldable pub startAt : List ℕ → ℕ → ℕ
+startAt words i = wordAt words i 2
+
+unfoldable pub lengthAt : List ℕ → ℕ → ℕ
+lengthAt words i = wordAt words i 3
+
+unfoldable pub lineAt : List ℕ → ℕ → ℕ
+lineAt words i = wordAt words i 4
+
+unfoldable pub columnAt : List ℕ → ℕ → ℕ
+columnAt words i = wordAt words i 5
+
+-- "A name is shown as the part of the text between its quotes", and a word as its part
+unfoldable pub bytesAt : List ℕ → List ℕ → ℕ → List ℕ
+bytesAt text words i = partOf text (startAt words i) (startAt words i + lengthAt words i)

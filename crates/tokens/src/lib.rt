@@ -1,0 +1,7 @@
+// The token layer: the lexer, the token records in the lent words, and the cursor over them.
+pub mod ascii;
+pub mod cursor;
+pub mod duration;
+pub mod lexer;
+pub mod record;
+pub mod scan;

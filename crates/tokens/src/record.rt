@@ -1,0 +1,94 @@
+// Token records: six words each in the lent words. Only this file and specs/Record.antt know the layout.
+ghost use mathlib.Core.Path.{_≡_};
+ghost use Rattle.tokens.specs.Record.{capacity, written, wordAt, kindAt, numberAt, startAt, lengthAt, lineAt, columnAt, bytesAt};
+
+pub struct Record {
+    pub kind: u32,
+    pub number: u32,
+    pub start: u32,
+    pub length: u32,
+    pub line: u32,
+    pub column: u32,
+}
+
+// How many whole records the words hold.
+pub fn count(words: &[u32]) -> usize
+    ensures { λ r. ⌜ r ≡ capacity (now (words .entry)) ⌝ }
+{
+    words.len() / 6
+}
+
+// Writes a record at an index. Where there is no room for it nothing is written.
+pub fn put(words: &mut [u32], i: usize, r: Record)
+    ensures { λ _. ⌜ now (words .exit) ≡ written (now (words .entry)) i r ⌝ }
+{
+    if words.len() / 6 <= i {
+        return;
+    }
+    let at = i * 6;
+    words[at] = r.kind;
+    words[at + 1] = r.number;
+    words[at + 2] = r.start;
+    words[at + 3] = r.length;
+    words[at + 4] = r.line;
+    words[at + 5] = r.column;
+}
+
+// Word k of the record at an index; 0 where there is none.
+fn word(words: &[u32], i: usize, k: usize) -> u32
+    ensures { λ r. ⌜ r ≡ wordAt (now (words .entry)) i k ⌝ }
+{
+    if words.len() / 6 <= i {
+        return 0;
+    }
+    let at = i * 6;
+    if words.len() - at <= k {
+        return 0;
+    }
+    words[at + k]
+}
+
+pub fn kind(words: &[u32], i: usize) -> u32
+    ensures { λ r. ⌜ r ≡ kindAt (now (words .entry)) i ⌝ }
+{
+    word(words, i, 0)
+}
+
+pub fn number(words: &[u32], i: usize) -> u32
+    ensures { λ r. ⌜ r ≡ numberAt (now (words .entry)) i ⌝ }
+{
+    word(words, i, 1)
+}
+
+pub fn start(words: &[u32], i: usize) -> u32
+    ensures { λ r. ⌜ r ≡ startAt (now (words .entry)) i ⌝ }
+{
+    word(words, i, 2)
+}
+
+pub fn length(words: &[u32], i: usize) -> u32
+    ensures { λ r. ⌜ r ≡ lengthAt (now (words .entry)) i ⌝ }
+{
+    word(words, i, 3)
+}
+
+pub fn line(words: &[u32], i: usize) -> u32
+    ensures { λ r. ⌜ r ≡ lineAt (now (words .entry)) i ⌝ }
+{
+    word(words, i, 4)
+}
+
+pub fn column(words: &[u32], i: usize) -> u32
+    ensures { λ r. ⌜ r ≡ columnAt (now (words .entry)) i ⌝ }
+{
+    word(words, i, 5)
+}
+
+// The part of the text that is a word, or a string between its quotes.
+pub fn bytes<'a, 'b>(text: &'a [u8], words: &'b [u32], i: usize) -> &'a [u8]
+    ensures { λ r. ⌜ now r ≡ bytesAt (now (text .entry)) (now (words .entry)) i ⌝ }
+{
+    let from = start(words, i) as usize;
+    let size = length(words, i) as usize;
+    text::part::part(text, from, from + size)
+}
