@@ -31,6 +31,13 @@ fn count_up(n: u32) -> u32
     if n < 4294967294 { n + 1 } else { 4294967295 }
 }
 
+// A number as far as a word of 32 bits holds it.
+pub fn held(n: usize) -> u32
+    ensures { λ r. ⌜ r ≡ counted n ⌝ }
+{
+    if n < 4294967295 { n as u32 } else { 4294967295 }
+}
+
 impl Place {
     // Where a text begins.
     pub fn start() -> Self

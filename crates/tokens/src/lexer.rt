@@ -7,6 +7,7 @@ use crate::record::Record;
 use crate::scan;
 use crate::scan::Quoted;
 use crate::scan::Run;
+use text::place;
 use text::place::Place;
 use text::place::Step;
 ghost use mathlib.Core.Path.{_≡_};
@@ -179,13 +180,6 @@ fn digit_count(from: Place, end: Place) -> usize
     ensures { λ r. ⌜ r ≡ digitsIn from end ⌝ }
 {
     distance(from.at, end.at)
-}
-
-// A number as far as a word of 32 bits holds it.
-fn held(n: usize) -> u32
-    ensures { λ r. ⌜ r ≡ counted n ⌝ }
-{
-    if n < 4294967295 { n as u32 } else { 4294967295 }
 }
 
 // A time whose hour's digits end at q; m is the place behind the colon.
@@ -367,8 +361,8 @@ fn record_of(kind: u32, number: u32, start: usize, end: usize, p: Place) -> Reco
     Record {
         kind,
         number,
-        start: held(start),
-        length: held(distance(start, end)),
+        start: place::held(start),
+        length: place::held(distance(start, end)),
         line: p.line,
         column: p.column,
     }

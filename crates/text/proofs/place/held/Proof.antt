@@ -1,8 +1,8 @@
 use Rattle.text.proofs.Tests.{steps}
 use borrow.Author.Needs.{needs}
 use Rattle.text.specs.Place.{counted}
-use Rattle.tokens.proofs.lexer.held.Statement.{statement}
-use Rattle.tokens.proofs.lexer.held.Tie as tie
+use Rattle.text.proofs.place.held.Statement.{statement}
+use Rattle.text.proofs.place.held.Tie as tie
 
 pub held-spec : {M : Type 1} → statement M
 unfolding counted
