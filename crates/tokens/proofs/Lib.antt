@@ -4,4 +4,8 @@ pub mod ScanLaws
 pub mod PowerLaws
 pub mod RecordLaws
 pub mod LexLaws
+pub mod LayoutReads
+pub mod LayoutScan
+pub mod LayoutToken
+pub mod LayoutLaws
 pub mod Pairs

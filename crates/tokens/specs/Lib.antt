@@ -6,3 +6,4 @@ pub mod Record
 pub mod Lex
 pub mod Result
 pub mod Cursor
+pub mod Layout
