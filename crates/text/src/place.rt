@@ -25,7 +25,7 @@ pub enum Checked {
 }
 
 // One more, up to the greatest number.
-fn count_up(n: u32) -> u32
+pub fn count_up(n: u32) -> u32
     ensures { λ r. ⌜ r ≡ counted (n + 1) ⌝ }
 {
     if n < 4294967294 { n + 1 } else { 4294967295 }

@@ -1,11 +1,11 @@
 -- Rules that follow the code of a reading step: an answer that is taken apart is a step of the definition, which stands on the right.
 use Prim.Native.Nat.{ℕ, _+_}
 use mathlib.Core.Bool.{Bool, true, false}
-use mathlib.Core.Path.{_≡_, _∙_, ap, sym}
+use mathlib.Core.Path.{_≡_, _∙_, refl, ap, sym}
 use native.Mathlib.Omega.{arith}
 use borrow.Author.Needs.{needs}
 use Rattle.text.proofs.Tests.{lt-yes, lt-no, le-yes, le-no, eq-yes, eq-no, in-range, under-range, over-range, told-yes, told-no, eq-told-yes, eq-told-no}
-use Rattle.tokens.specs.Result.{Res, ok, no, bind}
+use Rattle.tokens.specs.Result.{Res, ok, no, bind, perhaps}
 use Rattle.tokens.specs.Cursor.{toTaken, accepted, at}
 use Rattle.tokens.specs.declared.cursor.Cursor.{Cursor}
 use Rattle.tokens.specs.declared.cursor.Refusal.{Refusal}
@@ -55,6 +55,27 @@ accepted-yes t i e h = rw (sym e ∙ h)
 pub accepted-no : {r : Bool} (t : Bool) (i : ℕ) → r ≡ t → r ≡ false → Left ≡ accepted t i
 unfolding accepted
 accepted-no t i e h = rw (sym e ∙ h)
+
+-- an optional token that was there, or was not
+yes-accepted : (t : Bool) (i : ℕ) {c : Cursor} → accepted t i ≡ Yes c → (t ≡ true) × (at (i + 1) ≡ c)
+unfolding accepted
+yes-accepted true i e = (refl, cc)
+yes-accepted false i e = absurd (let z : _≡_ {A = ℕ} 0 1 = cc in omega arith)
+
+no-accepted : (t : Bool) (i : ℕ) → accepted t i ≡ Left → t ≡ false
+unfolding accepted
+no-accepted true i e = absurd (let z : _≡_ {A = ℕ} 0 1 = cc in omega arith)
+no-accepted false i e = refl
+
+pub perhaps-yes : {B : Type 0} {a : Accepted} (t : Bool) (i : ℕ) (f : ℕ → Res B) (other : Res B) {c : Cursor} {y : Res B} →
+    a ≡ accepted t i → a ≡ Yes c → y ≡ f (c .index) → y ≡ perhaps t i f other
+perhaps-yes t i f other d m h =
+    let q = yes-accepted t i (sym d ∙ m) in
+    rw (q .0) (h ∙ ap (λ (k : Cursor). f (k .index)) (sym (q .1)))
+
+pub perhaps-no : {B : Type 0} {a : Accepted} (t : Bool) (i : ℕ) (f : ℕ → Res B) (other : Res B) {y : Res B} →
+    a ≡ accepted t i → a ≡ Left → y ≡ other → y ≡ perhaps t i f other
+perhaps-no t i f other d m h = rw (no-accepted t i (sym d ∙ m)) h
 
 -- closes what is left of a function that takes tokens
 pub ruleset chain = (

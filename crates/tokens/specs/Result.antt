@@ -1,5 +1,6 @@
 -- What reading at a token answers: a value and the index of the next token, or a refusal.
-use Prim.Native.Nat.{ℕ}
+use Prim.Native.Nat.{ℕ, _+_}
+use mathlib.Core.Bool.{Bool, true, false}
 use Rattle.tokens.specs.declared.cursor.Refusal.{Refusal}
 
 pub data Res (A : Type 0) : Type 0 where
@@ -10,6 +11,11 @@ pub data Res (A : Type 0) : Type 0 where
 abbrev pub bind : {A B : Type 0} → Res A → (A → ℕ → Res B) → Res B
 bind (ok a i) f = f a i
 bind (no r) f = no r
+
+-- an optional token at i: if it is there, the step behind it, else another
+abbrev pub perhaps : {B : Type 0} → Bool → ℕ → (ℕ → Res B) → Res B → Res B
+perhaps true i f other = f (i + 1)
+perhaps false i f other = other
 
 -- refused with a number at the token i
 abbrev pub refuse : {A : Type 0} → ℕ → ℕ → Res A

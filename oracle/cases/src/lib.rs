@@ -15,6 +15,21 @@ pub struct Case {
     pub sheet: Vec<u8>,
 }
 
+/// Words of one token record: kind, number, start, length, line, column.
+pub const RECORD: usize = 6;
+
+/// What lexing alone leaves behind.
+#[derive(Debug, Clone, PartialEq, Eq)]
+pub struct Lexing {
+    /// The records of all tokens, or of those before the refused one.
+    pub records: Vec<[u32; RECORD]>,
+    /// 0, or the refusal's number.
+    pub number: u32,
+    /// The place of the refusal, or of the end of text.
+    pub line: u32,
+    pub column: u32,
+}
+
 /// What reading the next case gave.
 #[derive(Debug)]
 pub enum Next {

@@ -1,12 +1,10 @@
 //! The token buffer that a caller lends.
 
 use crate::lexer::Token;
+use cases::RECORD;
 
 /// What every word holds before a call.
 const UNTOUCHED: u32 = u32::MAX;
-
-/// Words of one record: kind, number, start, length, line, column.
-const RECORD: usize = 6;
 
 pub struct Buffer {
     words: Vec<u32>,
@@ -41,7 +39,7 @@ impl Buffer {
 }
 
 /// A text of at most 16,384 bytes has no start, length, line or column that 32 bits cannot hold.
-fn record(token: &Token) -> [u32; RECORD] {
+pub fn record(token: &Token) -> [u32; RECORD] {
     let word = |size: usize| u32::try_from(size).unwrap_or(UNTOUCHED);
     let place = token.place;
     [token.kind as u32, token.number, word(token.start), word(token.length), place.line, place.column]

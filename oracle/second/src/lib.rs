@@ -14,7 +14,7 @@ mod triggers;
 mod values;
 
 use buffer::Buffer;
-use cases::Case;
+use cases::{Case, Lexing};
 use model::Lists;
 use reader::{Read, Reader};
 use refusal::{Place, Refusal};
@@ -46,6 +46,28 @@ pub fn in_domain(case: &Case) -> bool {
     }
 }
 
+/// Lexing alone, of the characters before the first place where none begins: questions 1, 2 and 10 to 19. With it,
+/// whether the supplied Rust must give the same: not for 1, 2 and 19, nor for a duration of 20 or more fractional digits.
+pub fn lexing(text: &[u8], words: usize) -> (Lexing, bool) {
+    if let Err(refusal) = room(text, words) {
+        return (lexing_with(Vec::new(), refusal.number, refusal.place), false);
+    }
+    let characters = text.utf8_chunks().next().map_or("", |chunk| chunk.valid());
+    let lexed = lexer::lex(characters);
+    let records = lexed.tokens.iter().map(buffer::record).collect();
+    match lexed.end {
+        Ok(end) => (lexing_with(records, 0, end), true),
+        Err(stop) => {
+            let refusal = stop.refusal;
+            (lexing_with(records, refusal.number, refusal.place), refusal.number != 19 && !stop.long_fraction)
+        }
+    }
+}
+
+fn lexing_with(records: Vec<[u32; cases::RECORD]>, number: u32, place: Place) -> Lexing {
+    Lexing { records, number, line: place.line, column: place.column }
+}
+
 /// One call: the questions 1 to 4, the lexing of the whole text, then the parsing.
 fn read(case: &Case) -> Outcome<'_> {
     let mut buffer = Buffer::new(case.words);
@@ -66,15 +88,21 @@ fn read(case: &Case) -> Outcome<'_> {
 
 /// The questions 1 to 4, in this order.
 fn admit<'a>(case: &'a Case, buffer: &Buffer) -> Read<(sheet::Sheet<'a>, &'a str)> {
-    if case.text.len() > MOST_TEXT {
-        return Err(Refusal::new(1, Place::NONE));
-    }
-    if buffer.len() < LEAST_WORDS {
-        return Err(Refusal::new(2, Place::NONE));
-    }
+    room(&case.text, buffer.len())?;
     let sheet = sheet::read(&case.sheet).map_err(|line| Refusal::new(3, Place { line, column: 0 }))?;
     let text = well_formed(&case.text).map_err(|place| Refusal::new(4, place))?;
     Ok((sheet, text))
+}
+
+/// The questions 1 and 2.
+fn room(text: &[u8], words: usize) -> Read<()> {
+    if text.len() > MOST_TEXT {
+        return Err(Refusal::new(1, Place::NONE));
+    }
+    if words < LEAST_WORDS {
+        return Err(Refusal::new(2, Place::NONE));
+    }
+    Ok(())
 }
 
 /// The text, or the first place where no UTF-8 sequence begins, counted in characters.

@@ -133,3 +133,20 @@ fn every_case_is_answered() {
         second::in_domain(&case);
     }
 }
+
+#[test]
+fn lexing_alone() {
+    let lexing = |text: &[u8], words| {
+        let (lexing, in_domain) = second::lexing(text, words);
+        ((lexing.records.len(), lexing.number, lexing.line, lexing.column), in_domain)
+    };
+    assert_eq!(lexing(b"a\n(", 6_144), ((2, 0, 2, 2), true));
+    assert_eq!(lexing(b"a 24:00", 6_144), ((1, 13, 1, 3), true));
+    assert_eq!(lexing(&[b' '; 16_385], 0), ((0, 1, 0, 0), false));
+    assert_eq!(lexing(b"a", 6_143), ((0, 2, 0, 0), false));
+    assert_eq!(lexing(&[b'('; 1_025], 6_144), ((1_024, 19, 1, 1_025), false));
+    assert_eq!(lexing(b"0.00000000000000000000s", 6_144), ((0, 17, 1, 1), false));
+    // Nothing is read behind the first place where no character begins.
+    assert_eq!(lexing(b"a \xFF @", 6_144), ((1, 0, 1, 3), true));
+    assert_eq!(lexing(b"\"\xC3\"", 6_144), ((0, 11, 1, 1), true));
+}

@@ -13,6 +13,9 @@ mod sheet;
 mod shown;
 mod tokens;
 
+/// The supplied `lex` itself, as it stands, to be timed.
+pub use crate::lexer::lex as supplied_lex;
+
 use crate::cursor::Cursor;
 use crate::lexer::{Lexed, Pos};
 use crate::sheet::Sheet;
@@ -69,6 +72,18 @@ pub fn answer(case: &cases::Case) -> String {
         Verdict::OutsideTheDomain => unreachable!("answered above"),
     }
     out
+}
+
+/// Lexing alone: what the supplied `lex` gives, as records and a place. There is none where it would overflow.
+pub fn lexing(text: &str) -> Option<cases::Lexing> {
+    let read = tokens::read(text);
+    let (number, line, column) = match read.end {
+        tokens::End::Lexed(lexed) => (0, lexed.end.line, lexed.end.column),
+        tokens::End::Refused(refusal) => (refusal.number, refusal.line, refusal.column),
+        tokens::End::Overflow => return None,
+    };
+    let records = read.records.iter().map(Record::words).collect();
+    Some(cases::Lexing { records, number, line, column })
 }
 
 fn line(out: &mut String, text: std::fmt::Arguments<'_>) {
@@ -148,5 +163,15 @@ mod tests {
     #[test]
     fn the_supplied_files_are_built_unmodified() {
         assert!(crate::SOURCES.iter().all(|(built, supplied)| built == supplied));
+    }
+
+    #[test]
+    fn lexing_alone_gives_records_and_a_place() {
+        let lexing = |records: &[[u32; 6]], number, line, column| {
+            Some(cases::Lexing { records: records.to_vec(), number, line, column })
+        };
+        assert_eq!(crate::lexing("\"é\"\n5s"), lexing(&[[2, 0, 1, 2, 1, 1], [5, 5_000, 5, 2, 2, 1]], 0, 2, 3));
+        assert_eq!(crate::lexing("a @"), lexing(&[[1, 0, 0, 1, 1, 1]], 10, 1, 3));
+        assert_eq!(crate::lexing("0.00000000000000000000s"), None);
     }
 }

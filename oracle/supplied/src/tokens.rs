@@ -20,6 +20,14 @@ pub struct Record {
     pub column: u32,
 }
 
+impl Record {
+    /// The six words of document 01, in its order.
+    pub fn words(&self) -> [u32; cases::RECORD] {
+        let word = |size: usize| u32::try_from(size).expect("a text is shorter than 2^32 bytes");
+        [self.kind, self.number, word(self.start), word(self.length), self.line, self.column]
+    }
+}
+
 /// How the reading of tokens ends.
 pub enum End {
     Lexed(Lexed),

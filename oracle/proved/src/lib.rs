@@ -1,0 +1,56 @@
+//! The proved lexer as a Rust function, and its comparison with the supplied Rust and the second reader.
+
+pub mod agree;
+pub mod coverage;
+pub mod short;
+pub mod texts;
+
+#[cfg(test)]
+mod tests;
+
+extern "C" {
+    /// Each slice is passed as a pointer and a length.
+    fn tergyosul_lex(
+        text: *const u8,
+        text_length: usize,
+        words: *mut u32,
+        words_length: usize,
+        answer: *mut u32,
+        answer_length: usize,
+    ) -> u32;
+}
+
+/// What a call answers beside the records in the words.
+#[derive(Debug, Clone, Copy, PartialEq, Eq)]
+pub struct Answer {
+    /// 0, or the number of the refusal.
+    pub number: u32,
+    /// The place of the refusal, or of the end of text.
+    pub line: u32,
+    pub column: u32,
+    /// How many tokens there are; 0 for a refusal.
+    pub count: u32,
+}
+
+/// Lexes a text: the records of its tokens go to the words.
+pub fn lex(text: &[u8], words: &mut [u32]) -> Answer {
+    let mut answer = [0; 4];
+    let number = lex_into(text, words, &mut answer);
+    let [_, line, column, count] = answer;
+    Answer { number, line, column, count }
+}
+
+/// The call itself. An answer of fewer than four words is left as it is; no word behind the fourth is written.
+pub fn lex_into(text: &[u8], words: &mut [u32], answer: &mut [u32]) -> u32 {
+    // SAFETY: each pointer and length is a slice that is borrowed for the call, and the two mutable ones overlap nothing.
+    unsafe {
+        tergyosul_lex(
+            text.as_ptr(),
+            text.len(),
+            words.as_mut_ptr(),
+            words.len(),
+            answer.as_mut_ptr(),
+            answer.len(),
+        )
+    }
+}
