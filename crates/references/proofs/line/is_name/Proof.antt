@@ -1,0 +1,17 @@
+use borrow.Author.Needs.{needs}
+use Rattle.references.specs.Line.{isName}
+use Rattle.references.proofs.LineLaws.{reading}
+use Rattle.references.proofs.line.is_name.Statement.{statement}
+use Rattle.references.proofs.line.is_name.Tie as tie
+
+pub is-name-spec : {M : Type 1} → statement M
+unfolding isName
+is-name-spec =
+    tie.close
+    (tie.spec
+    (λ c. search reading)
+    (λ c. search reading)
+    (λ c κs. search needs)
+    (λ c. search reading)
+    (λ c κs. search needs)
+    (λ c. search reading))

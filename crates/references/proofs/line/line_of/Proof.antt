@@ -1,0 +1,17 @@
+use borrow.Author.Needs.{needs}
+use Rattle.references.specs.Line.{lineOf}
+use Rattle.references.proofs.LineLaws.{reading}
+use Rattle.references.proofs.line.line_of.Statement.{statement}
+use Rattle.references.proofs.line.line_of.Tie as tie
+
+pub line-of-spec : {M : Type 1} → statement M
+unfolding lineOf
+line-of-spec =
+    tie.close
+    (tie.spec
+    (λ c κs. search needs)
+    (λ c κs. search needs)
+    (λ c κs. search needs)
+    (λ c κs. search needs)
+    (λ c. search reading)
+    (λ c. search reading))

@@ -1,0 +1,23 @@
+use borrow.Author.Needs.{needs}
+use Rattle.references.specs.Line.{rowOf}
+use Rattle.references.proofs.LineLaws.{reading}
+use Rattle.references.proofs.line.row_of.Statement.{statement}
+use Rattle.references.proofs.line.row_of.Tie as tie
+
+pub row-of-spec : {M : Type 1} → statement M
+unfolding rowOf
+row-of-spec =
+    tie.close
+    (tie.spec
+    (λ c κs. search needs)
+    (λ c κs. search needs)
+    (λ c κs. search needs)
+    (λ c κs. search needs)
+    (λ c κs. search needs)
+    (λ c κs. search needs)
+    (λ c κs. search needs)
+    (λ c κs. search needs)
+    (λ c κs. search needs)
+    (λ c. search reading)
+    (λ c. search reading)
+    (λ c. search reading))

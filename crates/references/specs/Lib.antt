@@ -1,0 +1,4 @@
+pub mod Line
+pub mod Sheet
+pub mod Resolve
+pub mod Scope

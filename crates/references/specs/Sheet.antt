@@ -1,0 +1,109 @@
+-- The name sheet: its lines, when it is well formed (question 3 of document 01), and what is seen of it.
+use Prim.Native.Nat.{ℕ, _+_}
+use mathlib.Core.List.{List, [], _∷_}
+use mathlib.Core.Bool.{Bool, true, false}
+use lib.ListN.{length, drop}
+use Rattle.bytes.specs.Bytes.{indexOf}
+use lib.Dec.{ltb, eqb}
+use Rattle.text.specs.Choice.{pick}
+use Rattle.references.specs.Line.{lineOf, nameOf}
+use Rattle.references.specs.declared.line.Line.{Line}
+use Rattle.references.specs.declared.line.Line.the-variants.{Primary, Adapter, Row, Bad}
+use Rattle.references.specs.declared.sheet.Settings.{Settings}
+use Rattle.references.specs.declared.sheet.Sheet.{Sheet}
+use Rattle.references.specs.declared.sheet.Sheet.the-variants.{WellFormed, BadLine}
+
+-- "lines end with LF, the last may lack it"
+abbrev pub onto : ℕ → List (List ℕ) → List (List ℕ)
+onto c [] = (c ∷ []) ∷ []
+onto c (l ∷ ls) = (c ∷ l) ∷ ls
+
+unfoldable pub lines : List ℕ → List (List ℕ)
+lines [] = []
+lines (c ∷ s) = pick (eqb c 0x0A) ([] ∷ lines s) (onto c (lines s))
+
+-- the offset of the LF that ends the line at an offset, or of the end of s
+unfoldable pub lineEnd : List ℕ → ℕ → ℕ
+lineEnd s at = pick (ltb at (length s)) (at + indexOf 0x0A (drop at s)) (length s)
+
+-- a line that may follow the first: an adapter or a row
+unfoldable pub isEntry : Line → Bool
+isEntry (Primary a) = false
+isEntry (Adapter a) = true
+isEntry (Row kind adapter number) = true
+isEntry Bad = false
+
+-- "Then at most 512 rows": from line n on, which is the first bad line? Line 514 would be the 513th row.
+unfoldable pub entriesFrom : ℕ → List (List ℕ) → Sheet
+entriesFrom n [] = WellFormed
+entriesFrom n (l ∷ ls) = pick (ltb 513 n) (BadLine n) (pick (isEntry (lineOf l)) (entriesFrom (n + 1) ls) (BadLine n))
+
+-- "First `primary,A`."
+unfoldable pub isPrimary : Line → Bool
+isPrimary (Primary a) = true
+isPrimary (Adapter a) = false
+isPrimary (Row kind adapter number) = false
+isPrimary Bad = false
+
+unfoldable pub linesCheck : List (List ℕ) → Sheet
+linesCheck [] = BadLine 1
+linesCheck (l ∷ ls) = pick (isPrimary (lineOf l)) (entriesFrom 2 ls) (BadLine 1)
+
+-- question 3: well formed, or the first bad line; 0 if the sheet is too long, 1 if it is empty
+unfoldable pub sheetCheck : List ℕ → Sheet
+sheetCheck s = pick (ltb 16384 (length s)) (BadLine 0) (linesCheck (lines s))
+
+-- a row, as it is seen above this layer
+pub record Entry : Type 0 where
+  pub kind : ℕ
+  pub adapter : ℕ
+  pub number : ℕ
+  pub name : List ℕ
+
+abbrev pub entryBy : Line → List ℕ → List Entry → List Entry
+entryBy (Primary a) name es = es
+entryBy (Adapter a) name es = es
+entryBy (Row kind adapter number) name es = record { kind = kind; adapter = adapter; number = number; name = name } ∷ es
+entryBy Bad name es = es
+
+-- the rows with names, in their order
+unfoldable pub entries : List (List ℕ) → List Entry
+entries [] = []
+entries (l ∷ ls) = entryBy (lineOf l) (nameOf l) (entries ls)
+
+unfoldable pub isListing : ℕ → Line → Bool
+isListing a (Primary b) = false
+isListing a (Adapter b) = eqb b a
+isListing a (Row kind adapter number) = false
+isListing a Bad = false
+
+-- "Only `adapter` rows list an adapter"
+unfoldable pub lists : ℕ → List (List ℕ) → Bool
+lists a [] = false
+lists a (l ∷ ls) = pick (isListing a (lineOf l)) true (lists a ls)
+
+abbrev pub primaryBy : Line → ℕ
+primaryBy (Primary a) = a
+primaryBy (Adapter a) = 0
+primaryBy (Row kind adapter number) = 0
+primaryBy Bad = 0
+
+-- the primary adapter, which the first line names; 0 of a sheet that is refused
+unfoldable pub primaryLine : List (List ℕ) → ℕ
+primaryLine [] = 0
+primaryLine (l ∷ ls) = primaryBy (lineOf l)
+
+-- what the definitions and the grammar above this layer see of a sheet, and nothing else
+pub record Names : Type 0 where
+  pub primary : ℕ
+  pub listed : ℕ → Bool
+  pub rows : List Entry
+
+unfoldable pub namesOf : List ℕ → Names
+namesOf s =
+    record { primary = primaryLine (lines s); listed = λ a. lists a (lines s); rows = entries (lines s) }
+
+-- a call's view of a sheet: its own primary adapter stands in for the sheet's
+unfoldable pub viewOf : Settings → List ℕ → Names
+viewOf settings s =
+    record { primary = settings .primary; listed = namesOf s .listed; rows = namesOf s .rows }

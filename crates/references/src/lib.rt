@@ -1,0 +1,4 @@
+// The reference layer: the name sheet, and what refers into it.
+pub mod line;
+pub mod resolve;
+pub mod sheet;
