@@ -1,3 +1,4 @@
 pub mod LineLaws
 pub mod SheetLaws
 pub mod ResolveLaws
+pub mod RefChain

@@ -1,4 +1,6 @@
+pub mod Limits
 pub mod Line
 pub mod Sheet
 pub mod Resolve
 pub mod Scope
+pub mod Refs

@@ -1,0 +1,17 @@
+use borrow.Author.Needs.{needs}
+use Rattle.references.specs.Refs.{quotedName}
+use Rattle.references.proofs.RefChain.{refs}
+use Rattle.references.proofs.refs.quoted_name.Statement.{statement}
+use Rattle.references.proofs.refs.quoted_name.Tie as tie
+
+pub quoted-name-spec : {M : Type 1} → statement M
+unfolding quotedName
+quoted-name-spec =
+    tie.close
+    (tie.spec
+    (λ c κs. search needs)
+    (λ c. search needs)
+    (λ c. search needs)
+    (λ c κs. search needs)
+    (λ c. search refs depth 12)
+    (λ c. search refs depth 12))
