@@ -1,22 +1,41 @@
--- Laws on the scans: where each ends, and that behind a character that it passes it ends alike.
+-- Laws on the scans: where each ends, and that behind a character that it passes it ends alike; then the same at a byte, as the loops
+-- read it.
 -- What a callee answered stands beside its contract, as the code has it: r, k or d.
-use mathlib.Core.Path.{_≡_, _∙_, sym}
-use mathlib.Core.Bool.{Bool, true, false, not}
-use mathlib.Core.List.{List}
-use Prim.Native.Nat.{ℕ, _+_, _-_, _*_, _<_, _≤_}
+use mathlib.Core.Path.{_≡_, _∙_, refl, ap, subst, sym}
+use mathlib.Core.Bool.{Bool, true, false, not, false≢true}
+use mathlib.Core.List.{List, [], _∷_}
+use Prim.Native.Nat.{ℕ, zero, suc, _+_, _-_, _*_, _^_, _<_, _≤_}
 use native.Mathlib.Omega.{arith}
-use lib.ListN.{length}
+use native.Mathlib.Nat.{add-zero}
+use native.Mathlib.Decide.{decLt}
+use lib.Dec.{leb, eqb}
+use lib.ListN.{length, getD, List·getD-eq-default}
+use lib.Seq.{getD-drop}
+use mir.Syntax.{w64}
+use mir.Val.{Fits}
 use borrow.Author.Needs.{needs}
-use borrow.Author.Tests.{lt-ltb, le-ltb, eq-eqb, ne-eqb, not-true, not-false}
-use Rattle.text.specs.Utf8.{chars}
-use Rattle.text.specs.Place.{stepOf}
+use borrow.Author.Tests.{leb-true, eqb-true, lt-ltb, le-ltb, eq-eqb, ne-eqb, not-true, not-false}
+use Rattle.text.specs.Choice.{pick, within}
+use Rattle.text.specs.Rfc3629.{Utf8-char, Starts, Stands}
+use Rattle.text.specs.Rfc3629.Utf8-char.{utf8-1, utf8-2, utf8-3-E0, utf8-3-E1, utf8-3-ED, utf8-3-EE, utf8-4-F0, utf8-4-F1, utf8-4-F4}
+use Rattle.text.specs.Rfc3629.Stands.{char, bad, end}
+use Rattle.text.specs.Utf8.{sequenceLength, sized, decodeAt, Character, chars}
+use Rattle.text.specs.Place.{counted, after, stepOf}
+use Rattle.text.specs.declared.utf8.Decoded.{Decoded}
+use Rattle.text.specs.declared.utf8.Decoded.the-variants.{Char, Bad, End}
 use Rattle.text.specs.declared.place.Place.{Place}
 use Rattle.text.specs.declared.place.Step.{Step}
 use Rattle.text.specs.declared.place.Step.the-variants.{Next, Stop}
+use Rattle.text.proofs.Tests.{picked}
+use Rattle.text.proofs.Utf8Rules.{stands}
+use Rattle.text.proofs.Utf8Laws.{decode-on}
+use Rattle.text.proofs.CharLaws.{char-inside, chars-char, chars-bad, chars-end}
 use Rattle.text.proofs.StepLaws.{Stepped, Stopped, step-next, step-stop}
-use Rattle.tokens.specs.Ascii.{isDigit}
+use Rattle.tokens.specs.Ascii.{isDigit, isAlpha, isWordStart, isWordPart}
 use Rattle.tokens.specs.Scan.{passed, triviaMode, trivia, quoted, withDigit, digits}
+use Rattle.tokens.specs.declared.scan.Quoted.{Quoted}
 use Rattle.tokens.specs.declared.scan.Quoted.the-variants.{Closed, Unterminated}
+use Rattle.tokens.specs.declared.scan.Run.{Run}
 use Rattle.tokens.specs.declared.scan.Run.the-variants.{Number, TooLarge}
 
 -- in a loop, where the scan from here ends as the scan from the start does: an answer a of bump, taken apart, leaves what holds of the
@@ -37,7 +56,7 @@ module _ (s : List ℕ) (p : Place) {a : Step} (b : a ≡ stepOf p (chars s (p .
 
 -- no character begins at p
 module _ {s : List ℕ} {p : Place} (t : Stopped s p) where
-  pub passed-stop : (class : ℕ → Bool) → p ≡ passed class p (chars s (p .at))
+  passed-stop : (class : ℕ → Bool) → p ≡ passed class p (chars s (p .at))
   unfolding passed
   passed-stop class = rw (t .rest)
 
@@ -49,17 +68,17 @@ module _ {s : List ℕ} {p : Place} (t : Stopped s p) where
   unfolding quoted
   quoted-stop = rw (t .rest)
 
-  pub digits-stop : (v : ℕ) → Number v p ≡ digits v p (chars s (p .at))
+  digits-stop : (v : ℕ) → Number v p ≡ digits v p (chars s (p .at))
   unfolding digits
   digits-stop v = rw (t .rest)
 
 -- a character stands at p, and next is the place behind it
 module _ {s : List ℕ} {p : Place} {code : ℕ} {next : Place} (t : Stepped s p code next) where
-  pub passed-here : (class : ℕ → Bool) {r : Bool} → r ≡ class code → not r ≡ true → p ≡ passed class p (chars s (p .at))
+  passed-here : (class : ℕ → Bool) {r : Bool} → r ≡ class code → not r ≡ true → p ≡ passed class p (chars s (p .at))
   unfolding passed
   passed-here class {r} e h = rw (t .rest, ← e, not-true r h)
 
-  pub passed-step : (class : ℕ → Bool) {r : Bool} → r ≡ class code → not r ≡ false →
+  passed-step : (class : ℕ → Bool) {r : Bool} → r ≡ class code → not r ≡ false →
       passed class next (chars s (next .at)) ≡ passed class p (chars s (p .at))
   unfolding passed
   passed-step class {r} e h = rw (t .rest, ← e, not-false r h, ← t .is)
@@ -73,50 +92,326 @@ module _ {s : List ℕ} {p : Place} {code : ℕ} {next : Place} (t : Stepped s p
   unfolding trivia
   trivia-step mode e h = rw (t .rest, ← e, ne-eqb _ _ h, ← t .is)
 
-  pub quoted-quote : code ≡ 0x22 → Closed (p .at) next ≡ quoted p (chars s (p .at))
+  quoted-quote : code ≡ 0x22 → Closed (p .at) next ≡ quoted p (chars s (p .at))
   unfolding quoted
   quoted-quote h = rw (t .rest, eq-eqb _ _ h, ← t .is)
 
-  pub quoted-line : code ≡ 0x0A → Unterminated (p .at) ≡ quoted p (chars s (p .at))
+  quoted-line : code ≡ 0x0A → Unterminated (p .at) ≡ quoted p (chars s (p .at))
   unfolding quoted
   quoted-line h = rw (t .rest, h)
 
-  pub quoted-step : (code ≡ 0x22 → ⊥) → (code ≡ 0x0A → ⊥) → quoted next (chars s (next .at)) ≡ quoted p (chars s (p .at))
+  quoted-step : (code ≡ 0x22 → ⊥) → (code ≡ 0x0A → ⊥) → quoted next (chars s (next .at)) ≡ quoted p (chars s (p .at))
   unfolding quoted
   quoted-step h k = rw (t .rest, ne-eqb _ _ h, ne-eqb _ _ k, ← t .is)
 
-  pub digits-here : (v : ℕ) {r : Bool} → r ≡ isDigit code → not r ≡ true → Number v p ≡ digits v p (chars s (p .at))
+  digits-here : (v : ℕ) {r : Bool} → r ≡ isDigit code → not r ≡ true → Number v p ≡ digits v p (chars s (p .at))
   unfolding digits
   digits-here v {r} e h = rw (t .rest, ← e, not-true r h)
 
-  pub digits-over : (v : ℕ) {r : Bool} {d : ℕ} → r ≡ isDigit code → not r ≡ false → d ≡ code - 0x30 → 1000000000 < v * 10 + d →
+  digits-over : (v : ℕ) {r : Bool} {d : ℕ} → r ≡ isDigit code → not r ≡ false → d ≡ code - 0x30 → 1000000000 < v * 10 + d →
       TooLarge ≡ digits v p (chars s (p .at))
   unfolding digits withDigit
   digits-over v {r} e h w k = rw (t .rest, ← e, not-false r h, ← w, lt-ltb _ _ k)
 
-  pub digits-step : (v : ℕ) {r : Bool} {d : ℕ} → r ≡ isDigit code → not r ≡ false → d ≡ code - 0x30 → v * 10 + d ≤ 1000000000 →
+  digits-step : (v : ℕ) {r : Bool} {d : ℕ} → r ≡ isDigit code → not r ≡ false → d ≡ code - 0x30 → v * 10 + d ≤ 1000000000 →
       digits (v * 10 + d) next (chars s (next .at)) ≡ digits v p (chars s (p .at))
   unfolding digits withDigit
   digits-step v {r} e h w k = rw (t .rest, ← e, not-false r h, ← w, le-ltb _ _ k, ← t .is)
 
--- closes what the loop of a scan leaves: search scans
+-- ---- the byte at an offset, and the character there
+
+-- a place by its parts, as the code holds them
+abbrev pub place : ℕ → ℕ → ℕ → Place
+place at line column = record { at = at; line = line; column = column }
+
+-- what the first byte b of a character says of its code c: the code is that byte, or it is above ASCII
+data Lead (b c : ℕ) : Type 0 where
+  ascii : c ≡ b → Lead b c
+  wide : 0x80 ≤ c → Lead b c
+
+lead : {u l : List ℕ} {c : ℕ} → Utf8-char u c → Starts l u → Lead (getD l 0 0) c
+lead (utf8-1 a) h = ascii (sym (ap (λ (l : List ℕ). getD l 0 0) (h .split)))
+lead (utf8-2 a b) h = wide (omega arith)
+lead (utf8-3-E0 a b c) h = wide (omega arith)
+lead (utf8-3-E1 a b c) h = wide (omega arith)
+lead (utf8-3-ED a b c) h = wide (omega arith)
+lead (utf8-3-EE a b c) h = wide (omega arith)
+lead (utf8-4-F0 a b c d) h = wide (omega arith)
+lead (utf8-4-F1 a b c d) h = wide (omega arith)
+lead (utf8-4-F4 a b c d) h = wide (omega arith)
+
+lead-high : {b c : ℕ} → 0x80 ≤ b → Lead b c → 0x80 ≤ c
+lead-high h (ascii e) = omega arith
+lead-high h (wide k) = k
+
+Leads : List ℕ → ℕ → Decoded → Type 0
+Leads s at (Char c n) = Lead (getD s at 0) c
+Leads s at Bad = Unit {0}
+Leads s at End = Unit {0}
+
+leads : {s : List ℕ} {at : ℕ} {x : Decoded} → Stands s at x → Leads s at x
+unfolding Leads
+leads {s} {at} (char {u} {c} h t) = subst (λ (b : ℕ). Lead b c) (getD-drop at s 0 0 ∙ rw add-zero) (lead h t)
+leads (bad h k) = tt
+leads (end h) = tt
+
+-- the step that a decoded character makes
+decoded-step : (s : List ℕ) (p : Place) (c n : ℕ) {next : Place} → decodeAt s (p .at) ≡ Char c n →
+    after p (record { code = c; next = n }) ≡ next → Stepped s p c next
+unfolding stepOf
+decoded-step s p c n d e = step-next s p c _ (ap (stepOf p) (chars-char s (p .at) c n d) ∙ ap (Next c) e)
+
+inside-by : (s : List ℕ) (at : ℕ) → getD s at 0x80 < 0x80 → Dec (at < length s) → at < length s
+inside-by s at h (yes k) = k
+inside-by s at h (no k) =
+    let z : getD s at 0x80 ≡ 0x80 = List·getD-eq-default s 0x80 (omega arith) in
+    absurd (omega arith)
+
+-- a byte within the text does not depend on what is read past the end
+any-default : (s : List ℕ) (at : ℕ) → at < length s → getD s at 0 ≡ getD s at 0x80
+any-default [] at h = absurd (omega arith)
+any-default (b ∷ s) zero h = refl
+any-default (b ∷ s) (suc at) h = any-default s at (omega arith)
+
+pub octet-read : (s : List ℕ) (at : ℕ) {r : ℕ} → at < length s → r ≡ getD s at 0 → r ≡ getD s at 0x80
+octet-read s at h e = e ∙ any-default s at h
+
+same-first : {x y : Character} {cs ds : List Character} → x ∷ cs ≡ y ∷ ds → x ≡ y
+same-first e = cc
+
+no-char : {ch : Character} {cs : List Character} → [] ≡ ch ∷ cs → ⊥
+no-char e =
+    let z : _≡_ {A = ℕ} 0 1 = cc in
+    omega arith
+
+-- the byte b at an offset, where 0x80 is read past the end
+module _ (s : List ℕ) (at : ℕ) {b : ℕ} (e : b ≡ getD s at 0x80) where
+  -- what it says of a character there
+  char-lead : (c n : ℕ) → decodeAt s at ≡ Char c n → Lead b c
+  unfolding Leads
+  char-lead c n d =
+      let h = char-inside s at c n d in
+      rw (e, ← any-default s at (omega arith)) (subst (Leads s at) d (leads (stands s at)))
+
+  lead-by : {c n : ℕ} {cs : List Character} (x : Decoded) → decodeAt s at ≡ x → chars s at ≡ record { code = c; next = n } ∷ cs → Lead b c
+  lead-by (Char d m) h l =
+      subst (λ (k : ℕ). Lead b k) (ap (λ (ch : Character). ch .code) (same-first (sym (chars-char s at d m h) ∙ l))) (char-lead d m h)
+  lead-by Bad h l = absurd (no-char (sym (chars-bad s at h) ∙ l))
+  lead-by End h l = absurd (no-char (sym (chars-end s at h) ∙ l))
+
+  step-lead : {line column code : ℕ} {next : Place} → Stepped s (place at line column) code next → Lead b code
+  step-lead t = lead-by (decodeAt s at) refl (t .rest)
+
+  -- below 0x80 it is a character by itself
+  module _ (k : b < 0x80) where
+    inside : at < length s
+    inside = inside-by s at (rw e at k) (decLt at (length s))
+
+    byte-decoded : decodeAt s at ≡ Char b (at + 1)
+    unfolding sized sequenceLength
+    byte-decoded = decode-on s at inside ∙ rw (any-default s at inside, ← e, lt-ltb b 0x80 k)
+
+    -- the step behind it: to the place that after gives, in the same line, or behind LF in the next one
+    byte-any : (line column : ℕ) → Stepped s (place at line column) b (after (place at line column) (record { code = b; next = at + 1 }))
+    byte-any line column = decoded-step s (place at line column) b (at + 1) byte-decoded refl
+
+    byte-step : (line column : ℕ) {up : ℕ} → (b ≡ 0x0A → ⊥) → up ≡ counted (column + 1) →
+        Stepped s (place at line column) b (place (at + 1) line up)
+    unfolding after
+    byte-step line column n u = decoded-step s (place at line column) b (at + 1) byte-decoded (rw (ne-eqb b 0x0A n, u))
+
+    line-step : (line column : ℕ) {up : ℕ} → b ≡ 0x0A → up ≡ counted (line + 1) →
+        Stepped s (place at line column) b (place (at + 1) up 1)
+    unfolding after
+    line-step line column n u = decoded-step s (place at line column) b (at + 1) byte-decoded (rw (eq-eqb b 0x0A n, u))
+
+    pub less-bytes : length s - (at + 1) < length s - at
+    less-bytes =
+        let h = inside in
+        omega arith
+
+    -- the offset behind the byte is a number that the machine holds
+    pub next-fits : length s < 2 ^ 64 → Fits w64 (at + 1)
+    next-fits l =
+        let h = inside in
+        omega arith
+
+-- ---- classes of characters
+
+-- a class of printed ASCII characters: neither LF nor 0x80 nor any higher byte is in it
+pub record Printed (class : ℕ → Bool) : Type 0 where
+  pub holds : (c : ℕ) → class c ≡ true → (0x20 < c) × (c < 0x80)
+
+-- a scan over a class ends at p: no character begins there, or one that is not in the class
+data Ended (class : ℕ → Bool) (s : List ℕ) (p : Place) : Type 0 where
+  stopped : Stopped s p → Ended class s p
+  stepped : {code : ℕ} {next : Place} → Stepped s p code next → false ≡ class code → Ended class s p
+
+module _ (class : ℕ → Bool) (printed : Printed class) where
+  not-wide : (c : ℕ) → 0x80 ≤ c → (t : Bool) → class c ≡ t → false ≡ t
+  not-wide c h true e =
+      let k = printed .holds c e in
+      absurd (omega arith)
+  not-wide c h false e = refl
+
+  outside : {b c : ℕ} → Lead b c → class b ≡ false → false ≡ class c
+  outside (ascii e) h = rw e (sym h)
+  outside {b} {c} (wide k) h = not-wide c k (class c) refl
+
+  -- the byte b at the offset, and whether it is in the class, r
+  module _ (s : List ℕ) (at : ℕ) {b : ℕ} (e : b ≡ getD s at 0x80) {r : Bool} (f : r ≡ class b) where
+    ended-by : (line column : ℕ) (x : Step) → stepOf (place at line column) (chars s at) ≡ x → class b ≡ false →
+        Ended class s (place at line column)
+    ended-by line column (Next code next) d h =
+        let t = step-next s (place at line column) code next d in
+        stepped t (outside (step-lead s at e t) h)
+    ended-by line column Stop d h = stopped (step-stop s (place at line column) d)
+
+    ended : (line column : ℕ) → not r ≡ true → Ended class s (place at line column)
+    ended line column h = ended-by line column (stepOf (place at line column) (chars s at)) refl (sym f ∙ not-true r h)
+
+    module _ (h : not r ≡ false) where
+      byte-in : (line column : ℕ) {up : ℕ} → up ≡ counted (column + 1) → Stepped s (place at line column) b (place (at + 1) line up)
+      byte-in line column u =
+          let k = printed .holds b (sym f ∙ not-false r h) in
+          byte-step s at e (k .1) line column (λ n. omega arith) u
+
+      pub less-in : length s - (at + 1) < length s - at
+      less-in = less-bytes s at e (printed .holds b (sym f ∙ not-false r h) .1)
+
+      pub fits-in : length s < 2 ^ 64 → Fits w64 (at + 1)
+      fits-in = next-fits s at e (printed .holds b (sym f ∙ not-false r h) .1)
+
+passed-ended : {class : ℕ → Bool} {s : List ℕ} {p : Place} → Ended class s p → p ≡ passed class p (chars s (p .at))
+passed-ended {class} (stopped t) = passed-stop t class
+passed-ended {class} (stepped t e) = passed-here t class e refl
+
+digits-ended : {s : List ℕ} {p : Place} (v : ℕ) → Ended isDigit s p → Number v p ≡ digits v p (chars s (p .at))
+digits-ended v (stopped t) = digits-stop t v
+digits-ended v (stepped t e) = digits-here t v e refl
+
+range-printed : (low high : ℕ) → 0x20 < low → high < 0x80 → Printed (λ c. within low high c)
+range-printed low high h k =
+    record {
+      holds =
+          λ c.
+          picked (λ (t : Bool). t ≡ true → (0x20 < c) × (c < 0x80)) (leb low c)
+          (λ l m.
+          let x = leb-true low c l in
+          let y = leb-true c high m in
+          (omega arith, omega arith))
+          (λ l m. absurd (false≢true m));
+    }
+
+one-printed : (k : ℕ) → 0x20 < k → k < 0x80 → Printed (λ c. eqb c k)
+one-printed k h m =
+    record {
+      holds =
+          λ c e.
+          let x = eqb-true c k e in
+          (omega arith, omega arith);
+    }
+
+either-printed : (f g : ℕ → Bool) → Printed f → Printed g → Printed (λ c. pick (f c) true (g c))
+either-printed f g a b =
+    record {
+      holds =
+          λ c. picked (λ (t : Bool). t ≡ true → (0x20 < c) × (c < 0x80)) (f c) (λ h k. a .holds c h) (λ h k. b .holds c k);
+    }
+
+pub digits-printed : Printed isDigit
+unfolding isDigit
+digits-printed = range-printed 0x30 0x39 (omega arith) (omega arith)
+
+pub letters-printed : Printed isAlpha
+unfolding isAlpha
+letters-printed =
+    either-printed (λ c. within 0x41 0x5A c) (λ c. within 0x61 0x7A c) (range-printed 0x41 0x5A (omega arith) (omega arith))
+    (range-printed 0x61 0x7A (omega arith) (omega arith))
+
+pub words-printed : Printed isWordPart
+unfolding isWordPart isWordStart
+words-printed =
+    either-printed isWordStart isDigit
+    (either-printed isAlpha (λ c. eqb c 0x5F) letters-printed (one-printed 0x5F (omega arith) (omega arith)))
+    digits-printed
+
+-- ---- the loops: i, the scan from here ends as the scan from the start does
+
+-- the loops over a class
+module _ (class : ℕ → Bool) (s : List ℕ) (at line column : ℕ) {start : Place} (i : passed class (place at line column) (chars s at) ≡ start)
+    (printed : Printed class) {b : ℕ} (e : b ≡ getD s at 0x80) {r : Bool} (f : r ≡ class b) where
+  pub passed-end : not r ≡ true → place at line column ≡ start
+  passed-end h = passed-ended (ended class printed s at e f line column h) ∙ i
+
+  pub passed-on : {up : ℕ} → not r ≡ false → up ≡ counted (column + 1) →
+      passed class (place (at + 1) line up) (chars s (at + 1)) ≡ start
+  passed-on h u = passed-step (byte-in class printed s at e f h line column u) class f h ∙ i
+
+module _ (s : List ℕ) (at line column v : ℕ) {start : Run} (i : digits v (place at line column) (chars s at) ≡ start) {b : ℕ}
+    (e : b ≡ getD s at 0x80) {r : Bool} (f : r ≡ isDigit b) where
+  pub digits-end : not r ≡ true → Number v (place at line column) ≡ start
+  digits-end h = digits-ended v (ended isDigit digits-printed s at e f line column h) ∙ i
+
+  module _ {d : ℕ} (h : not r ≡ false) (w : d ≡ b - 0x30) where
+    pub digits-many : 1000000000 < v * 10 + d → TooLarge ≡ start
+    digits-many k = digits-over (byte-in isDigit digits-printed s at e f h line column refl) v f h w k ∙ i
+
+    pub digits-on : {up : ℕ} → v * 10 + d ≤ 1000000000 → up ≡ counted (column + 1) →
+        digits (v * 10 + d) (place (at + 1) line up) (chars s (at + 1)) ≡ start
+    digits-on k u = digits-step (byte-in isDigit digits-printed s at e f h line column u) v f h w k ∙ i
+
+-- over white space and comments, at a byte below 0x80
+module _ (s : List ℕ) (at line column mode : ℕ) {start : Place} (i : trivia mode (place at line column) (chars s at) ≡ start) {b : ℕ}
+    (e : b ≡ getD s at 0x80) (k : b < 0x80) {m : ℕ} (f : m ≡ triviaMode mode b) where
+  pub trivia-end : m ≡ 2 → place at line column ≡ start
+  trivia-end h = trivia-here (byte-any s at e k line column) mode f h ∙ i
+
+  pub trivia-on : {up : ℕ} → (m ≡ 2 → ⊥) → (b ≡ 0x0A → ⊥) → up ≡ counted (column + 1) →
+      trivia m (place (at + 1) line up) (chars s (at + 1)) ≡ start
+  trivia-on h n u = trivia-step (byte-step s at e k line column n u) mode f h ∙ i
+
+  pub trivia-line : {up : ℕ} → (m ≡ 2 → ⊥) → b ≡ 0x0A → up ≡ counted (line + 1) →
+      trivia m (place (at + 1) up 1) (chars s (at + 1)) ≡ start
+  trivia-line h n u = trivia-step (line-step s at e k line column n u) mode f h ∙ i
+
+-- over a string
+module _ (s : List ℕ) (at line column : ℕ) {b : ℕ} (e : b ≡ getD s at 0x80) where
+  -- a character above ASCII is neither a quote nor LF
+  pub quoted-wide : {code : ℕ} {next : Place} → 0x80 ≤ b → Stepped s (place at line column) code next →
+      quoted next (chars s (next .at)) ≡ quoted (place at line column) (chars s at)
+  quoted-wide {code} h t =
+      let k = lead-high h (step-lead s at e t) in
+      quoted-step t (λ n. omega arith) (λ n. omega arith)
+
+  module _ {start : Quoted} (i : quoted (place at line column) (chars s at) ≡ start) (k : b < 0x80) where
+    pub quoted-close : {up : ℕ} → b ≡ 0x22 → up ≡ counted (column + 1) → Closed at (place (at + 1) line up) ≡ start
+    quoted-close n u = quoted-quote (byte-step s at e k line column (λ m. omega arith) u) n ∙ i
+
+    pub quoted-end : b ≡ 0x0A → Unterminated at ≡ start
+    quoted-end n = quoted-line (byte-any s at e k line column) n ∙ i
+
+    pub quoted-on : {up : ℕ} → (b ≡ 0x22 → ⊥) → (b ≡ 0x0A → ⊥) → up ≡ counted (column + 1) →
+        quoted (place (at + 1) line up) (chars s (at + 1)) ≡ start
+    quoted-on m n u = quoted-step (byte-step s at e k line column n u) m n ∙ i
+
+-- closes most of what the loop of a scan leaves: search scans
 pub ruleset scans = (
   needs,
-  at-next,
-  at-stop,
-  less-left,
-  passed-stop,
-  passed-here,
-  passed-step,
-  trivia-stop,
-  trivia-here,
-  trivia-step,
-  quoted-stop,
-  quoted-quote,
-  quoted-line,
-  quoted-step,
-  digits-stop,
-  digits-here,
-  digits-over,
-  digits-step,
+  less-bytes,
+  next-fits,
+  less-in,
+  fits-in,
+  digits-printed,
+  letters-printed,
+  words-printed,
+  passed-end,
+  passed-on,
+  trivia-end,
+  trivia-on,
+  trivia-line,
+  quoted-close,
+  quoted-on,
+  digits-end,
+  digits-on,
 )

@@ -1,31 +1,42 @@
-// Scans over the characters of a text. Each has one loop, and answers for any bytes and any place.
+// Scans over the characters of a text. Each has one loop, and answers for any bytes and any place. A byte below 0x80 is a character
+// by itself and is read in place; bump reads the others. For speed a loop holds its place in parts.
 use crate::ascii;
 use text::place::Place;
 use text::place::Step;
+use text::place::count_up;
 ghost use mathlib.Core.Path.{_≡_};
+ghost use lib.ListN.{getD};
 ghost use Prim.Native.Nat.{_*_, _+_, _-_};
 ghost use Rattle.text.specs.Utf8.{chars};
 ghost use Rattle.tokens.specs.Ascii.{isAlpha, isWordPart};
 ghost use Rattle.tokens.specs.Scan.{passed, triviaMode, trivia, quoted, digits};
 
+fn wide(b: u8) -> u32
+    ensures { λ r. ⌜ r ≡ b ⌝ }
+{
+    b as u32
+}
+
+// The byte at an offset; 0x80, which begins no character, past the end. No byte from there on is in a class of ascii.
+fn octet(s: &[u8], at: usize) -> u32
+    ensures { λ r. ⌜ r ≡ getD (now (s .entry)) at 0x80 ⌝ }
+{
+    if at < s.len() { wide(s[at]) } else { 0x80 }
+}
+
 // Behind the letters, digits and _ that stand in a row.
 pub fn word_end(s: &[u8], from: Place) -> Place
     ensures { λ r. ⌜ r ≡ passed isWordPart from (chars (now (s .entry)) (from .at)) ⌝ }
 {
-    let mut p = from;
+    let line = from.line;
+    let mut at = from.at;
+    let mut column = from.column;
     loop {
-        let step = p.bump(s);
-        match step {
-            Step::Next { code, place } => {
-                if !ascii::is_word_part(code) {
-                    return p;
-                }
-                p = place;
-            }
-            Step::Stop => {
-                return p;
-            }
+        if !ascii::is_word_part(octet(s, at)) {
+            return Place { at, line, column };
         }
+        at = at + 1;
+        column = count_up(column);
     }
 }
 
@@ -33,20 +44,15 @@ pub fn word_end(s: &[u8], from: Place) -> Place
 pub fn letters_end(s: &[u8], from: Place) -> Place
     ensures { λ r. ⌜ r ≡ passed isAlpha from (chars (now (s .entry)) (from .at)) ⌝ }
 {
-    let mut p = from;
+    let line = from.line;
+    let mut at = from.at;
+    let mut column = from.column;
     loop {
-        let step = p.bump(s);
-        match step {
-            Step::Next { code, place } => {
-                if !ascii::is_alpha(code) {
-                    return p;
-                }
-                p = place;
-            }
-            Step::Stop => {
-                return p;
-            }
+        if !ascii::is_alpha(octet(s, at)) {
+            return Place { at, line, column };
         }
+        at = at + 1;
+        column = count_up(column);
     }
 }
 
@@ -71,20 +77,38 @@ fn trivia_mode(mode: u32, code: u32) -> u32
 pub fn skip_trivia(s: &[u8], from: Place) -> Place
     ensures { λ r. ⌜ r ≡ trivia 0 from (chars (now (s .entry)) (from .at)) ⌝ }
 {
-    let mut p = from;
+    let mut at = from.at;
+    let mut line = from.line;
+    let mut column = from.column;
     let mut mode: u32 = 0;
     loop {
-        let step = p.bump(s);
-        match step {
-            Step::Next { code, place } => {
-                mode = trivia_mode(mode, code);
-                if mode == 2 {
-                    return p;
-                }
-                p = place;
+        let b = octet(s, at);
+        if b < 0x80 {
+            mode = trivia_mode(mode, b);
+            if mode == 2 {
+                return Place { at, line, column };
             }
-            Step::Stop => {
-                return p;
+            at = at + 1;
+            if b == 0xA {
+                line = count_up(line);
+                column = 1;
+            } else {
+                column = count_up(column);
+            }
+        } else {
+            match (Place { at, line, column }).bump(s) {
+                Step::Next { code, place } => {
+                    mode = trivia_mode(mode, code);
+                    if mode == 2 {
+                        return Place { at, line, column };
+                    }
+                    at = place.at;
+                    line = place.line;
+                    column = place.column;
+                }
+                Step::Stop => {
+                    return Place { at, line, column };
+                }
             }
         }
     }
@@ -100,26 +124,38 @@ pub enum Quoted {
 pub fn string_end(s: &[u8], from: Place) -> Quoted
     ensures { λ r. ⌜ r ≡ quoted from (chars (now (s .entry)) (from .at)) ⌝ }
 {
-    let mut p = from;
-    let found = loop {
-        let step = p.bump(s);
-        let end = p.at;
-        match step {
-            Step::Next { code, place } => {
-                if code == 0x22 {
-                    break Quoted::Closed { end, next: place };
-                }
-                if code == 0xA {
-                    break Quoted::Unterminated { end };
-                }
-                p = place;
+    let mut at = from.at;
+    let mut line = from.line;
+    let mut column = from.column;
+    loop {
+        let b = octet(s, at);
+        if b < 0x80 {
+            if b == 0x22 {
+                let next = Place {
+                    at: at + 1,
+                    line,
+                    column: count_up(column),
+                };
+                return Quoted::Closed { end: at, next };
             }
-            Step::Stop => {
-                break Quoted::Unterminated { end };
+            if b == 0xA {
+                return Quoted::Unterminated { end: at };
+            }
+            at = at + 1;
+            column = count_up(column);
+        } else {
+            match (Place { at, line, column }).bump(s) {
+                Step::Next { code: _, place } => {
+                    at = place.at;
+                    line = place.line;
+                    column = place.column;
+                }
+                Step::Stop => {
+                    return Quoted::Unterminated { end: at };
+                }
             }
         }
-    };
-    found
+    }
 }
 
 // A run of digits: the number it writes and the place behind it, or more than 1,000,000,000.
@@ -142,25 +178,24 @@ fn digit_value(code: u32) -> u64
 pub fn digit_run(s: &[u8], from: Place) -> Run
     ensures { λ r. ⌜ r ≡ digits 0 from (chars (now (s .entry)) (from .at)) ⌝ }
 {
-    let mut p = from;
+    let line = from.line;
+    let mut at = from.at;
+    let mut column = from.column;
     let mut value: u32 = 0;
     loop {
-        let step = p.bump(s);
-        match step {
-            Step::Next { code, place } => {
-                if !ascii::is_digit(code) {
-                    return Run::Number { value, end: p };
-                }
-                let more = value as u64 * 10 + digit_value(code);
-                if 1000000000 < more {
-                    return Run::TooLarge;
-                }
-                value = more as u32;
-                p = place;
-            }
-            Step::Stop => {
-                return Run::Number { value, end: p };
-            }
+        let code = octet(s, at);
+        if !ascii::is_digit(code) {
+            return Run::Number {
+                value,
+                end: Place { at, line, column },
+            };
         }
+        let more = value as u64 * 10 + digit_value(code);
+        if 1000000000 < more {
+            return Run::TooLarge;
+        }
+        value = more as u32;
+        at = at + 1;
+        column = count_up(column);
     }
 }

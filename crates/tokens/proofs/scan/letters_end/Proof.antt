@@ -5,16 +5,17 @@ use borrow.Author.Needs.{needs}
 use Rattle.text.specs.Utf8.{chars}
 use Rattle.tokens.specs.Ascii.{isAlpha}
 use Rattle.tokens.specs.Scan.{passed}
-use Rattle.tokens.proofs.ScanLaws.{scans}
+use Rattle.tokens.proofs.ScanLaws.{place, scans}
 use Rattle.tokens.proofs.scan.letters_end.Statement.{statement}
 use Rattle.tokens.proofs.scan.letters_end.Tie as tie
 
 -- the letters from here end where the letters from the start do
 abbrev Inv-loop : tie.InvT-loop
-Inv-loop s p₀ p = passed isAlpha p (chars s (p .at)) ≡ passed isAlpha p₀ (chars s (p₀ .at))
+Inv-loop s line at₀ column₀ at column =
+    passed isAlpha (place at line column) (chars s at) ≡ passed isAlpha (place at₀ line column₀) (chars s at₀)
 
 abbrev μ-loop : tie.MeasureT-loop
-μ-loop s p₀ p = length s - p .at
+μ-loop s line at₀ column₀ at column = length s - at
 
 pub letters-end-spec : {M : Type 1} → statement M
 letters-end-spec =
@@ -24,10 +25,9 @@ letters-end-spec =
     μ-loop
     (λ c. refl)
     (λ c κs. search needs)
-    (λ c. search needs)
     (λ c κs. search needs)
     (λ c. search scans)
     (λ c. search scans)
+    (λ c κs. search needs)
     (λ c. search scans)
-    (λ c. search needs)
     (λ c. search scans))
