@@ -4,3 +4,4 @@ pub mod Sheet
 pub mod Resolve
 pub mod Scope
 pub mod Refs
+pub mod Args

@@ -1,4 +1,5 @@
 // The reference layer: the name sheet, and what refers into it.
+pub mod args;
 pub mod line;
 pub mod refs;
 pub mod resolve;
