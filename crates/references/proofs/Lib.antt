@@ -4,3 +4,6 @@ pub mod ResolveLaws
 pub mod RefChain
 pub mod ArgChain
 pub mod ArgLaws
+pub mod Okay
+pub mod RefSound
+pub mod RefComplete

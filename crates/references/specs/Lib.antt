@@ -5,3 +5,4 @@ pub mod Resolve
 pub mod Scope
 pub mod Refs
 pub mod Args
+pub mod Grammar
