@@ -7,3 +7,6 @@ pub mod ArgLaws
 pub mod Okay
 pub mod RefSound
 pub mod RefComplete
+pub mod ItemLaws
+pub mod ArgSound
+pub mod ArgComplete

@@ -44,7 +44,7 @@ pub okay : {A : Type 0} (P : A → ℕ → Type 0) {m : Res A} {v : A} {j : ℕ}
 okay P h e = subst (λ m. Okay P m) e h
 
 -- the two ways in which tests are joined
-both-true : (x y : Bool) → pick x y false ≡ true → (x ≡ true) × (y ≡ true)
+pub both-true : (x y : Bool) → pick x y false ≡ true → (x ≡ true) × (y ≡ true)
 both-true true y e = (refl, e)
 both-true false y e = absurd (let z : _≡_ {A = ℕ} 0 1 = cc in omega arith)
 
