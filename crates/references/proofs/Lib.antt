@@ -10,3 +10,4 @@ pub mod RefComplete
 pub mod ItemLaws
 pub mod ArgSound
 pub mod ArgComplete
+pub mod NumberLaws

@@ -1,0 +1,192 @@
+-- Every refusal has one of document 01's numbers, 20 to 41: one rule for each way in which a definition is built, and what a search with these
+-- rules shows of references and ARGS.
+use Prim.Native.Nat.{ℕ, zero, suc, _+_, _≤_}
+use mathlib.Core.Path.{_≡_, refl}
+use mathlib.Core.Bool.{Bool, true, false}
+use mathlib.Core.List.{List, [], _∷_}
+use lib.Dec.{leb}
+use borrow.Author.Tests.{leb-true}
+use Rattle.text.specs.Choice.{pick, within}
+use Rattle.tokens.specs.declared.cursor.Refusal.{Refusal}
+use Rattle.tokens.specs.Result.{Res, ok, no, bind, perhaps}
+use Rattle.tokens.specs.Cursor.{Tok, takeKind, takeWord, takeIn}
+use Rattle.references.specs.Sheet.{Names, Entry}
+use Rattle.references.specs.Resolve.{noneOf, chosen, resolved, elsewhere}
+use Rattle.references.specs.Refs.{nameAt, closedName, quotedName, nameOrId, adapterNumber, adapterAssign, adapterClause, foundAt, referred, closeR, openR, reference, lampRef, groupRef, deviceRef, devName, inputDeviceRef, lampTarget, groupTarget, lightTarget}
+use Rattle.references.specs.Args.{keySlot, namedSlot, unnamedSlot, slotAt, typeAt, deviceItem, instanceItem, groupItem, typeItem, adapterItem, itemAt, argAt, argsFrom, deviceInstance, withInst, withDev, withGroup, selected, closeArgs, inputSelector, oneInstance, inputRef}
+use Rattle.references.specs.declared.resolve.Scope.{Scope}
+use Rattle.references.specs.declared.refs.NameOrId.{NameOrId}
+use Rattle.references.specs.declared.refs.NameOrId.the-variants.{Name, Id}
+use Rattle.references.specs.declared.args.Args.{Args}
+use Rattle.references.specs.declared.args.Dev.{Dev}
+use Rattle.references.specs.declared.args.Number.{Number}
+use Rattle.references.specs.declared.args.GroupArg.{GroupArg}
+use Rattle.references.specs.declared.args.Selector.{Selector}
+use Rattle.references.proofs.Okay.{both-true}
+
+-- a refusal, if it is one, has a number from 20 to 41
+unfoldable pub Refuses : {A : Type 0} → Res A → Type 0
+Refuses (ok a j) = Unit {0}
+Refuses (no r) = (20 ≤ r .number) × (r .number ≤ 41)
+
+pub ok-refuses : {A : Type 0} (a : A) (j : ℕ) → Refuses (ok a j)
+unfolding Refuses
+ok-refuses a j = tt
+
+-- the test of a literal number is shown by `refl`
+pub no-refuses : (A : Type 0) (r : Refusal) → within 20 41 (r .number) ≡ true → Refuses {A = A} (no r)
+unfolding Refuses
+no-refuses A r e = let p = both-true (leb 20 (r .number)) _ e in (leb-true _ _ (p .0), leb-true _ _ (p .1))
+
+pub bind-refuses : {A B : Type 0} (m : Res A) (f : A → ℕ → Res B) → Refuses m → ((a : A) (j : ℕ) → Refuses (f a j)) → Refuses (bind m f)
+unfolding Refuses
+bind-refuses (ok a j) f h k = k a j
+bind-refuses (no r) f h k = h
+
+pub pick-refuses : {A : Type 0} (b : Bool) (x y : Res A) → Refuses x → Refuses y → Refuses (pick b x y)
+pick-refuses true x y h k = h
+pick-refuses false x y h k = k
+
+pub perhaps-refuses : {A : Type 0} (b : Bool) (i : ℕ) (f : ℕ → Res A) (other : Res A) → Refuses (f (i + 1)) → Refuses other →
+    Refuses (perhaps b i f other)
+perhaps-refuses true i f other h k = h
+perhaps-refuses false i f other h k = k
+
+-- the ways in which a definition is built
+pub ruleset parts = (ok-refuses, no-refuses, bind-refuses, pick-refuses, perhaps-refuses)
+
+pub kind-refuses : (t : ℕ → Tok) (kind i : ℕ) → Refuses (takeKind t kind i)
+unfolding takeKind
+kind-refuses t kind i = search parts
+
+pub word-refuses : (t : ℕ → Tok) (word : List ℕ) (i : ℕ) → Refuses (takeWord t word i)
+unfolding takeWord
+word-refuses t word i = search parts
+
+pub in-refuses : (t : ℕ → Tok) (low high i : ℕ) → Refuses (takeIn t low high i)
+unfolding takeIn
+in-refuses t low high i = search (parts, kind-refuses)
+
+-- those, and the steps over tokens
+pub ruleset numbers = (parts, kind-refuses, word-refuses, in-refuses)
+
+-- a name that is looked up: 31 to 34
+found-refuses : (i j : ℕ) (all some : List Entry) → Refuses (foundAt i j (chosen all some))
+unfolding foundAt chosen noneOf
+found-refuses i j [] [] = search parts
+found-refuses i j (e ∷ es) [] = search parts
+found-refuses i j all (e ∷ []) = search parts
+found-refuses i j all (e ∷ f ∷ es) = no-refuses _ _ (two (elsewhere (e .adapter) (f ∷ es)))
+  where
+    two : (b : Bool) → within 20 41 (pick b 34 33) ≡ true
+    two true = refl
+    two false = refl
+
+module _ (t : ℕ → Tok) where
+  name-refuses : (i : ℕ) → Refuses (nameAt t i)
+  unfolding nameAt
+  name-refuses i = search numbers
+
+  pub quoted-refuses : (i : ℕ) → Refuses (quotedName t i)
+  unfolding quotedName closedName
+  quoted-refuses i = search (numbers, name-refuses)
+
+  name-or-id-refuses : (i : ℕ) → Refuses (nameOrId t i)
+  unfolding nameOrId
+  name-or-id-refuses i = search (numbers, name-refuses)
+
+module _ (t : ℕ → Tok) (names : Names) where
+  adapter-refuses : (i : ℕ) → Refuses (adapterNumber t names i)
+  unfolding adapterNumber
+  adapter-refuses i = search numbers
+
+  pub clause-refuses : (i : ℕ) → Refuses (adapterClause t names i)
+  unfolding adapterClause adapterAssign
+  clause-refuses i = search (numbers, adapter-refuses)
+
+  referred-refuses : (kind most : ℕ) (scope : Scope) (j : ℕ) (target : NameOrId) → Refuses (referred t names kind most scope j target)
+  unfolding referred resolved
+  referred-refuses kind most scope j (Name i) = found-refuses i j _ _
+  referred-refuses kind most scope j (Id n i) = search numbers
+
+  inside-refuses : (kind most i : ℕ) → Refuses (openR t names kind most i)
+  unfolding openR closeR
+  inside-refuses kind most i = search (numbers, name-or-id-refuses, clause-refuses, referred-refuses)
+
+  ref-refuses : (kind most i : ℕ) → Refuses (reference t names kind most i)
+  unfolding reference
+  ref-refuses kind most i = search (numbers, inside-refuses)
+
+  pub lamp-refuses : (i : ℕ) → Refuses (lampRef t names i)
+  unfolding lampRef
+  lamp-refuses i = search ref-refuses
+
+  pub group-refuses : (i : ℕ) → Refuses (groupRef t names i)
+  unfolding groupRef
+  group-refuses i = search ref-refuses
+
+  pub device-refuses : (i : ℕ) → Refuses (deviceRef t names i)
+  unfolding deviceRef
+  device-refuses i = search ref-refuses
+
+  pub input-device-refuses : (i : ℕ) → Refuses (inputDeviceRef t names i)
+  unfolding inputDeviceRef devName
+  input-device-refuses i = search (numbers, inside-refuses)
+
+  pub target-refuses : (i : ℕ) → Refuses (lightTarget t names i)
+  unfolding lightTarget lampTarget groupTarget
+  target-refuses i = search (numbers, lamp-refuses, group-refuses)
+
+  -- one argument
+  arg-refuses : (count i : ℕ) → Refuses (argAt t names count i)
+  unfolding argAt slotAt namedSlot keySlot unnamedSlot itemAt deviceItem instanceItem groupItem typeItem typeAt adapterItem
+  arg-refuses count i = search (numbers, name-or-id-refuses, adapter-refuses) depth 12
+
+  args-refuses : (fuel : ℕ) (a : Args) (count i : ℕ) → Refuses (argsFrom t names fuel a count i)
+  unfolding argsFrom
+  args-refuses zero a count i = search numbers
+  args-refuses (suc fuel) a count i = search (numbers, arg-refuses, args-refuses fuel)
+
+  -- the arguments judged
+  inst-refuses : (scope : Scope) (close next : ℕ) (d : NameOrId) (n : Number) → Refuses (withInst t names scope close next d n)
+  unfolding withInst deviceInstance
+  inst-refuses scope close next d Number.Absent = search numbers
+  inst-refuses scope close next d (Number.Is n) = search (numbers, referred-refuses)
+
+  dev-refuses : (a : Args) (close next : ℕ) (d : Dev) → Refuses (withDev t names a close next d)
+  unfolding withDev
+  dev-refuses a close next Dev.Absent = search numbers
+  dev-refuses a close next (Dev.Is d) = search inst-refuses
+
+  with-group-refuses : (a : Args) (close next : ℕ) (g : GroupArg) → Refuses (withGroup t names a close next g)
+  unfolding withGroup
+  with-group-refuses a close next GroupArg.Absent = search dev-refuses
+  with-group-refuses a close next (GroupArg.Is g i) = search numbers
+
+  pub selector-refuses : (fuel i : ℕ) → Refuses (inputSelector t names fuel i)
+  unfolding inputSelector closeArgs selected
+  selector-refuses fuel i = search (numbers, args-refuses, with-group-refuses)
+
+pub one-refuses : (paren next : ℕ) (s : Selector) → Refuses (oneInstance paren next s)
+unfolding oneInstance
+one-refuses paren next (Selector.Instance r n) = search numbers
+one-refuses paren next (Selector.Group a g k) = search numbers
+
+pub input-refuses : (t : ℕ → Tok) (names : Names) (fuel i : ℕ) → Refuses (inputRef t names fuel i)
+unfolding inputRef
+input-refuses t names fuel i = search (numbers, selector-refuses, one-refuses)
+
+-- those, and what a rule has of references
+pub ruleset refusals = (
+  numbers,
+  quoted-refuses,
+  clause-refuses,
+  lamp-refuses,
+  group-refuses,
+  device-refuses,
+  input-device-refuses,
+  target-refuses,
+  selector-refuses,
+  one-refuses,
+  input-refuses,
+)
