@@ -1,3 +1,6 @@
+pub mod AnswerChain
+pub mod SignedLaws
+pub mod ValueChain
 pub mod WordLaws
 pub mod TimeLaws
 pub mod ExprLaws

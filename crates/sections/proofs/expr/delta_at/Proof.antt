@@ -1,0 +1,17 @@
+use borrow.Author.Needs.{needs}
+use Rattle.sections.specs.Expr.{deltaAt}
+use Rattle.sections.proofs.ValueChain.{values}
+use Rattle.sections.proofs.expr.delta_at.Statement.{statement}
+use Rattle.sections.proofs.expr.delta_at.Tie as tie
+
+pub delta-at-spec : {M : Type 1} → statement M
+unfolding deltaAt
+delta-at-spec =
+    tie.close
+    (tie.spec
+    (λ c κs. search needs)
+    (λ c. search needs)
+    (λ c. search needs)
+    (λ c κs. search needs)
+    (λ c. search values depth 12)
+    (λ c. search values depth 12))

@@ -1,0 +1,17 @@
+use borrow.Author.Needs.{needs}
+use Rattle.sections.specs.Expr.{groupReading}
+use Rattle.sections.proofs.ValueChain.{readings}
+use Rattle.sections.proofs.expr.group_reading.Statement.{statement}
+use Rattle.sections.proofs.expr.group_reading.Tie as tie
+
+pub group-reading-spec : {M : Type 1} → statement M
+unfolding groupReading
+group-reading-spec =
+    tie.close
+    (tie.spec
+    (λ c κs. search needs)
+    (λ c. search needs)
+    (λ c. search needs)
+    (λ c κs. search needs)
+    (λ c. search readings depth 12)
+    (λ c. search readings depth 12))

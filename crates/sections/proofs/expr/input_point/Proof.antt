@@ -1,0 +1,19 @@
+use borrow.Author.Needs.{needs}
+use Rattle.tokens.specs.Cursor.{tokens}
+use Rattle.sections.specs.Expr.{propertyAt}
+use Rattle.sections.proofs.ValueChain.{points}
+use Rattle.sections.proofs.expr.input_point.Statement.{statement}
+use Rattle.sections.proofs.expr.input_point.Tie as tie
+
+pub input-point-spec : {M : Type 1} → statement M
+unfolding propertyAt tokens
+input-point-spec =
+    tie.close
+    (tie.spec
+    (λ c κs. search needs)
+    (λ c. search needs)
+    (λ c. search needs)
+    (λ c κs. search needs)
+    (λ c κs. search needs)
+    (λ c. search points depth 12)
+    (λ c. search points depth 12))

@@ -1,0 +1,25 @@
+use borrow.Author.Needs.{needs}
+use Rattle.sections.specs.Expr.{lampProperty}
+use Rattle.sections.proofs.ValueChain.{choices}
+use Rattle.sections.proofs.expr.lamp_property.Statement.{statement}
+use Rattle.sections.proofs.expr.lamp_property.Tie as tie
+
+pub lamp-property-spec : {M : Type 1} → statement M
+unfolding lampProperty
+lamp-property-spec =
+    tie.close
+    (tie.spec
+    (λ c. search needs)
+    (λ c κs. search needs)
+    (λ c. search choices depth 12)
+    (λ c. search needs)
+    (λ c κs. search needs)
+    (λ c. search choices depth 12)
+    (λ c. search needs)
+    (λ c κs. search needs)
+    (λ c. search choices depth 12)
+    (λ c. search needs)
+    (λ c κs. search needs)
+    (λ c. search choices depth 12)
+    (λ c κs. search needs)
+    (λ c. search choices depth 12))
