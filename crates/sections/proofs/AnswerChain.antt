@@ -3,7 +3,7 @@
 use Prim.Native.Nat.{ℕ}
 use mathlib.Core.Path.{_≡_, _∙_, ap, sym}
 use mathlib.Core.Bool.{Bool}
-use Rattle.tokens.specs.Result.{Res, ok, no, bind}
+use Rattle.tokens.specs.Result.{Res, ok, no, bind, refuse}
 use Rattle.tokens.specs.declared.cursor.Cursor.{Cursor}
 use Rattle.tokens.specs.declared.cursor.Refusal.{Refusal}
 use Rattle.sections.specs.Words.{toPair}
@@ -29,11 +29,11 @@ use Rattle.sections.specs.declared.condition.OperandAnswer.{OperandAnswe
 use Rattle.sections.specs.declared.condition.Condition.{Condition}
 use Rattle.sections.specs.declared.condition.ConditionAnswer.{ConditionAnswer}
 
-abbrev fromPair : PairAnswer → Res Bool
+abbrev pub fromPair : PairAnswer → Res Bool
 fromPair (PairAnswer.Got v c) = ok v (c .index)
 fromPair (PairAnswer.No r) = no r
 
-is-pair : (x : Res Bool) {a b : PairAnswer} → a ≡ toPair x → a ≡ b → x ≡ fromPair b
+pub is-pair : (x : Res Bool) {a b : PairAnswer} → a ≡ toPair x → a ≡ b → x ≡ fromPair b
 unfolding toPair
 is-pair (ok v i) e m = ap fromPair (sym e ∙ m)
 is-pair (no r) e m = ap fromPair (sym e ∙ m)
@@ -57,11 +57,11 @@ pub stop-pair : {B : Type 0} {a : PairAnswer} (x : Res Bool) (f : Bool → ℕ �
     a ≡ toPair x → a ≡ PairAnswer.No r → no r ≡ bind x f
 stop-pair x f e m = rw (is-pair x e m)
 
-abbrev fromBound : BoundAnswer → Res TimeBound
+abbrev pub fromBound : BoundAnswer → Res TimeBound
 fromBound (BoundAnswer.Got v c) = ok v (c .index)
 fromBound (BoundAnswer.No r) = no r
 
-is-bound : (x : Res TimeBound) {a b : BoundAnswer} → a ≡ toBound x → a ≡ b → x ≡ fromBound b
+pub is-bound : (x : Res TimeBound) {a b : BoundAnswer} → a ≡ toBound x → a ≡ b → x ≡ fromBound b
 unfolding toBound
 is-bound (ok v i) e m = ap fromBound (sym e ∙ m)
 is-bound (no r) e m = ap fromBound (sym e ∙ m)
@@ -85,11 +85,11 @@ pub stop-bound : {B : Type 0} {a : BoundAnswer} (x : Res TimeBound) (f : TimeBou
     a ≡ toBound x → a ≡ BoundAnswer.No r → no r ≡ bind x f
 stop-bound x f e m = rw (is-bound x e m)
 
-abbrev fromReading : ReadingAnswer → Res Reading
+abbrev pub fromReading : ReadingAnswer → Res Reading
 fromReading (ReadingAnswer.Got v c) = ok v (c .index)
 fromReading (ReadingAnswer.No r) = no r
 
-is-reading : (x : Res Reading) {a b : ReadingAnswer} → a ≡ toReading x → a ≡ b → x ≡ fromReading b
+pub is-reading : (x : Res Reading) {a b : ReadingAnswer} → a ≡ toReading x → a ≡ b → x ≡ fromReading b
 unfolding toReading
 is-reading (ok v i) e m = ap fromReading (sym e ∙ m)
 is-reading (no r) e m = ap fromReading (sym e ∙ m)
@@ -113,11 +113,11 @@ pub stop-reading : {B : Type 0} {a : ReadingAnswer} (x : Res Reading) (f : Readi
     a ≡ toReading x → a ≡ ReadingAnswer.No r → no r ≡ bind x f
 stop-reading x f e m = rw (is-reading x e m)
 
-abbrev fromValue : ValueAnswer → Res Value
+abbrev pub fromValue : ValueAnswer → Res Value
 fromValue (ValueAnswer.Got v c) = ok v (c .index)
 fromValue (ValueAnswer.No r) = no r
 
-is-value : (x : Res Value) {a b : ValueAnswer} → a ≡ toValue x → a ≡ b → x ≡ fromValue b
+pub is-value : (x : Res Value) {a b : ValueAnswer} → a ≡ toValue x → a ≡ b → x ≡ fromValue b
 unfolding toValue
 is-value (ok v i) e m = ap fromValue (sym e ∙ m)
 is-value (no r) e m = ap fromValue (sym e ∙ m)
@@ -141,11 +141,11 @@ pub stop-value : {B : Type 0} {a : ValueAnswer} (x : Res Value) (f : Value → �
     a ≡ toValue x → a ≡ ValueAnswer.No r → no r ≡ bind x f
 stop-value x f e m = rw (is-value x e m)
 
-abbrev fromEvent : EventAnswer → Res Event
+abbrev pub fromEvent : EventAnswer → Res Event
 fromEvent (EventAnswer.Got v c) = ok v (c .index)
 fromEvent (EventAnswer.No r) = no r
 
-is-event : (x : Res Event) {a b : EventAnswer} → a ≡ toEvent x → a ≡ b → x ≡ fromEvent b
+pub is-event : (x : Res Event) {a b : EventAnswer} → a ≡ toEvent x → a ≡ b → x ≡ fromEvent b
 unfolding toEvent
 is-event (ok v i) e m = ap fromEvent (sym e ∙ m)
 is-event (no r) e m = ap fromEvent (sym e ∙ m)
@@ -169,11 +169,11 @@ pub stop-event : {B : Type 0} {a : EventAnswer} (x : Res Event) (f : Event → �
     a ≡ toEvent x → a ≡ EventAnswer.No r → no r ≡ bind x f
 stop-event x f e m = rw (is-event x e m)
 
-abbrev fromTrigger : TriggerAnswer → Res Trigger
+abbrev pub fromTrigger : TriggerAnswer → Res Trigger
 fromTrigger (TriggerAnswer.Got v c) = ok v (c .index)
 fromTrigger (TriggerAnswer.No r) = no r
 
-is-trigger : (x : Res Trigger) {a b : TriggerAnswer} → a ≡ toTrigger x → a ≡ b → x ≡ fromTrigger b
+pub is-trigger : (x : Res Trigger) {a b : TriggerAnswer} → a ≡ toTrigger x → a ≡ b → x ≡ fromTrigger b
 unfolding toTrigger
 is-trigger (ok v i) e m = ap fromTrigger (sym e ∙ m)
 is-trigger (no r) e m = ap fromTrigger (sym e ∙ m)
@@ -197,11 +197,11 @@ pub stop-trigger : {B : Type 0} {a : TriggerAnswer} (x : Res Trigger) (f : Trigg
     a ≡ toTrigger x → a ≡ TriggerAnswer.No r → no r ≡ bind x f
 stop-trigger x f e m = rw (is-trigger x e m)
 
-abbrev fromComparison : ComparisonAnswer → Res Comparison
+abbrev pub fromComparison : ComparisonAnswer → Res Comparison
 fromComparison (ComparisonAnswer.Got v c) = ok v (c .index)
 fromComparison (ComparisonAnswer.No r) = no r
 
-is-comparison : (x : Res Comparison) {a b : ComparisonAnswer} → a ≡ toComparison x → a ≡ b → x ≡ fromComparison b
+pub is-comparison : (x : Res Comparison) {a b : ComparisonAnswer} → a ≡ toComparison x → a ≡ b → x ≡ fromComparison b
 unfolding toComparison
 is-comparison (ok v i) e m = ap fromComparison (sym e ∙ m)
 is-comparison (no r) e m = ap fromComparison (sym e ∙ m)
@@ -225,11 +225,11 @@ pub stop-comparison : {B : Type 0} {a : ComparisonAnswer} (x : Res Comparison) (
     a ≡ toComparison x → a ≡ ComparisonAnswer.No r → no r ≡ bind x f
 stop-comparison x f e m = rw (is-comparison x e m)
 
-abbrev fromOperand : OperandAnswer → Res Operand
+abbrev pub fromOperand : OperandAnswer → Res Operand
 fromOperand (OperandAnswer.Got v c) = ok v (c .index)
 fromOperand (OperandAnswer.No r) = no r
 
-is-operand : (x : Res Operand) {a b : OperandAnswer} → a ≡ toOperand x → a ≡ b → x ≡ fromOperand b
+pub is-operand : (x : Res Operand) {a b : OperandAnswer} → a ≡ toOperand x → a ≡ b → x ≡ fromOperand b
 unfolding toOperand
 is-operand (ok v i) e m = ap fromOperand (sym e ∙ m)
 is-operand (no r) e m = ap fromOperand (sym e ∙ m)
@@ -253,11 +253,11 @@ pub stop-operand : {B : Type 0} {a : OperandAnswer} (x : Res Operand) (f : Opera
     a ≡ toOperand x → a ≡ OperandAnswer.No r → no r ≡ bind x f
 stop-operand x f e m = rw (is-operand x e m)
 
-abbrev fromCondition : ConditionAnswer → Res Condition
+abbrev pub fromCondition : ConditionAnswer → Res Condition
 fromCondition (ConditionAnswer.Got v c) = ok v (c .index)
 fromCondition (ConditionAnswer.No r) = no r
 
-is-condition : (x : Res Condition) {a b : ConditionAnswer} → a ≡ toCondition x → a ≡ b → x ≡ fromCondition b
+pub is-condition : (x : Res Condition) {a b : ConditionAnswer} → a ≡ toCondition x → a ≡ b → x ≡ fromCondition b
 unfolding toCondition
 is-condition (ok v i) e m = ap fromCondition (sym e ∙ m)
 is-condition (no r) e m = ap fromCondition (sym e ∙ m)
@@ -280,3 +280,8 @@ then-condition x f e m h = rw (is-condition x e m) h
 pub stop-condition : {B : Type 0} {a : ConditionAnswer} (x : Res Condition) (f : Condition → ℕ → Res B) {r : Refusal} →
     a ≡ toCondition x → a ≡ ConditionAnswer.No r → no r ≡ bind x f
 stop-condition x f e m = rw (is-condition x e m)
+
+-- a refusal that a function made
+pub refused : {A : Type 0} (number i : ℕ) {r : Refusal} → r ≡ record { number = number; token = i; detail = 0 } →
+    _≡_ {A = Res A} (no r) (refuse number i)
+refused number i e = rw e

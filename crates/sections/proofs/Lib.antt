@@ -1,6 +1,8 @@
 pub mod AnswerChain
 pub mod SignedLaws
 pub mod ValueChain
+pub mod TriggerChain
+pub mod ConditionChain
 pub mod WordLaws
 pub mod TimeLaws
 pub mod ExprLaws

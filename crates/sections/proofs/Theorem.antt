@@ -69,7 +69,7 @@ parsed-sound text words sheet l (ok lists j) n h e =
 parsed-sound text words sheet l (no r) n h e = let some = n .0 in absurd (omega arith)
 
 -- a lexing that ends is parsed
-lexed-complete : (text sheet : List ℕ) (whole : Lexing) {l : Lexing} {count : ℕ} → Ended l count →
+pub lexed-complete : (text sheet : List ℕ) (whole : Lexing) {l : Lexing} {count : ℕ} → Ended l count →
     lexedFrom text sheet whole l ≡ parsed whole (ruleOf text (recordWords whole) sheet)
 unfolding lexedFrom
 lexed-complete text sheet whole at-end = refl
@@ -93,7 +93,7 @@ gives : {text : List ℕ} {count : ℕ} → Ended (lexText text) count → Gives
 unfolding lexText
 gives h = record { most = 1024; lexed = refl; finished = h }
 
-few : (text : List ℕ) {count : ℕ} → Ended (lexText text) count → count ≤ 1024
+pub few : (text : List ℕ) {count : ℕ} → Ended (lexText text) count → count ≤ 1024
 unfolding lexText
 few text h = most-tokens 1024 text start h
 

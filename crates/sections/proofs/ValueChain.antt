@@ -9,9 +9,8 @@ use mir.Syntax.{w32, w64}
 use mir.Val.{SFits, toZ, ofZ}
 use Rattle.text.specs.Choice.{pick}
 use Rattle.text.proofs.Tests.{le-yes, le-no, told-yes, told-no}
-use Rattle.tokens.specs.Result.{Res, ok, no, refuse}
+use Rattle.tokens.specs.Result.{ok}
 use Rattle.tokens.specs.Cursor.{Tok}
-use Rattle.tokens.specs.declared.cursor.Refusal.{Refusal}
 use Rattle.tokens.proofs.Chain.{then-taken, stop-taken, perhaps-yes, perhaps-no}
 use Rattle.references.specs.Sheet.{Names}
 use Rattle.references.specs.declared.refs.Ref.{Ref}
@@ -27,7 +26,7 @@ use Rattle.sections.specs.declared.timeval.TimeBound.the-variants.{Solar
 use Rattle.sections.specs.declared.expr.Reading.{Reading}
 use Rattle.sections.specs.declared.expr.Reading.the-variants.{Var}
 use Rattle.sections.specs.declared.expr.Value.the-variants.{Literal, Offset}
-use Rattle.sections.proofs.AnswerChain.{pair-ok, pair-no, pair-same, then-pair, stop-pair, bound-ok, bound-no, bound-same, reading-ok, reading-no, reading-same, then-reading, stop-reading, value-ok, value-no, value-same}
+use Rattle.sections.proofs.AnswerChain.{pair-ok, pair-no, pair-same, then-pair, stop-pair, bound-ok, bound-no, bound-same, reading-ok, reading-no, reading-same, then-reading, stop-reading, value-ok, value-no, value-same, refused}
 use Rattle.sections.proofs.SignedLaws.{same64, narrows, narrowed}
 
 -- a step by a word's bytes p, which the code took by the same bytes q
@@ -77,11 +76,6 @@ pub solar-made : (event : SolarEvent) (minus : Bool) (ms j : ℕ) {z : ℤ} {mos
     SFits w64 z → z ≡ signed minus ms → most ≡ mostOffset minus → ms ≤ most →
     ok (Solar event (toZ w32 (ofZ w32 (toZ w64 (ofZ w64 z))))) j ≡ ok (Solar event (signed minus ms)) j
 solar-made event minus ms j {z} fits e d h = ap (λ (x : ℤ). ok (Solar event x) j) (narrowed z minus ms fits e d h)
-
--- a refusal that a function made
-pub refused : {A : Type 0} (number i : ℕ) {r : Refusal} → r ≡ record { number = number; token = i; detail = 0 } →
-    _≡_ {A = Res A} (no r) (refuse number i)
-refused number i e = rw e
 
 -- a number that is compared with a function's answer r
 module _ {A : Type 0} (n m : ℕ) (a b : A) {x : A} {r : ℕ} (d : r ≡ m) where

@@ -1,0 +1,29 @@
+use borrow.Author.Needs.{needs}
+use Rattle.sections.specs.Condition.{conditionBy}
+use Rattle.sections.proofs.ConditionChain.{choices}
+use Rattle.sections.proofs.condition.condition_by.Statement.{statement}
+use Rattle.sections.proofs.condition.condition_by.Tie as tie
+
+pub condition-by-spec : {M : Type 1} → statement M
+unfolding conditionBy
+condition-by-spec =
+    tie.close
+    (tie.spec
+    (λ c. search needs)
+    (λ c κs. search needs)
+    (λ c κs. search needs)
+    (λ c. search choices depth 12)
+    (λ c. search needs)
+    (λ c κs. search needs)
+    (λ c κs. search needs)
+    (λ c. search choices depth 12)
+    (λ c. search needs)
+    (λ c κs. search needs)
+    (λ c κs. search needs)
+    (λ c. search choices depth 12)
+    (λ c. search needs)
+    (λ c κs. search needs)
+    (λ c κs. search needs)
+    (λ c. search choices depth 12)
+    (λ c κs. search needs)
+    (λ c. search choices depth 12))

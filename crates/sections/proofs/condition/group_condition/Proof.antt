@@ -1,0 +1,23 @@
+use borrow.Author.Needs.{needs}
+use Rattle.sections.specs.Condition.{groupCondition}
+use Rattle.sections.proofs.ConditionChain.{states}
+use Rattle.sections.proofs.condition.group_condition.Statement.{statement}
+use Rattle.sections.proofs.condition.group_condition.Tie as tie
+
+pub group-condition-spec : {M : Type 1} → statement M
+unfolding groupCondition
+group-condition-spec =
+    tie.close
+    (tie.spec
+    (λ c κs. search needs)
+    (λ c. search needs)
+    (λ c. search needs)
+    (λ c. search needs)
+    (λ c. search needs)
+    (λ c κs. search needs)
+    (λ c. search needs)
+    (λ c. search needs)
+    (λ c κs. search needs)
+    (λ c. search states depth 12)
+    (λ c. search states depth 12)
+    (λ c. search states depth 12))

@@ -1,0 +1,22 @@
+use borrow.Author.Needs.{needs}
+use Rattle.sections.specs.Condition.{lightCondition}
+use Rattle.sections.proofs.ConditionChain.{states}
+use Rattle.sections.proofs.condition.light_condition.Statement.{statement}
+use Rattle.sections.proofs.condition.light_condition.Tie as tie
+
+pub light-condition-spec : {M : Type 1} → statement M
+unfolding lightCondition
+light-condition-spec =
+    tie.close
+    (tie.spec
+    (λ c κs. search needs)
+    (λ c. search needs)
+    (λ c. search needs)
+    (λ c. search needs)
+    (λ c κs. search needs)
+    (λ c. search needs)
+    (λ c. search needs)
+    (λ c κs. search needs)
+    (λ c. search states depth 12)
+    (λ c. search states depth 12)
+    (λ c. search states depth 12))

@@ -1,0 +1,27 @@
+use borrow.Author.Needs.{needs}
+use Rattle.sections.specs.Condition.{ruleCondition}
+use Rattle.sections.proofs.ConditionChain.{phrases}
+use Rattle.sections.proofs.condition.rule_condition.Statement.{statement}
+use Rattle.sections.proofs.condition.rule_condition.Tie as tie
+
+pub rule-condition-spec : {M : Type 1} → statement M
+unfolding ruleCondition
+rule-condition-spec =
+    tie.close
+    (tie.spec
+    (λ c κs. search needs)
+    (λ c. search needs)
+    (λ c. search needs)
+    (λ c. search needs)
+    (λ c κs. search needs)
+    (λ c. search needs)
+    (λ c. search needs)
+    (λ c. search needs)
+    (λ c κs. search needs)
+    (λ c. search needs)
+    (λ c. search needs)
+    (λ c κs. search needs)
+    (λ c. search phrases depth 12)
+    (λ c. search phrases depth 12)
+    (λ c. search phrases depth 12)
+    (λ c. search phrases depth 12))

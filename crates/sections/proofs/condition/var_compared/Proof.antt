@@ -1,0 +1,20 @@
+use borrow.Author.Needs.{needs}
+use Rattle.sections.specs.Condition.{varCompared}
+use Rattle.sections.proofs.ConditionChain.{compared}
+use Rattle.sections.proofs.condition.var_compared.Statement.{statement}
+use Rattle.sections.proofs.condition.var_compared.Tie as tie
+
+pub var-compared-spec : {M : Type 1} → statement M
+unfolding varCompared
+var-compared-spec =
+    tie.close
+    (tie.spec
+    (λ c κs. search needs)
+    (λ c. search needs)
+    (λ c. search needs)
+    (λ c κs. search needs)
+    (λ c. search needs)
+    (λ c. search needs)
+    (λ c. search compared depth 12)
+    (λ c. search compared depth 12)
+    (λ c. search compared depth 12))

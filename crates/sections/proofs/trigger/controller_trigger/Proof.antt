@@ -1,0 +1,27 @@
+use borrow.Author.Needs.{needs}
+use Rattle.sections.specs.Trigger.{controllerTrigger}
+use Rattle.sections.proofs.TriggerChain.{phrases}
+use Rattle.sections.proofs.trigger.controller_trigger.Statement.{statement}
+use Rattle.sections.proofs.trigger.controller_trigger.Tie as tie
+
+pub controller-trigger-spec : {M : Type 1} → statement M
+unfolding controllerTrigger
+controller-trigger-spec =
+    tie.close
+    (tie.spec
+    (λ c. search needs)
+    (λ c κs. search needs)
+    (λ c. search needs)
+    (λ c. search phrases depth 12)
+    (λ c. search needs)
+    (λ c. search needs)
+    (λ c κs. search needs)
+    (λ c. search needs)
+    (λ c. search needs)
+    (λ c. search needs)
+    (λ c κs. search needs)
+    (λ c. search needs)
+    (λ c. search needs)
+    (λ c. search phrases depth 12)
+    (λ c. search phrases depth 12)
+    (λ c. search phrases depth 12))

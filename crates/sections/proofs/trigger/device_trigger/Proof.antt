@@ -1,0 +1,17 @@
+use borrow.Author.Needs.{needs}
+use Rattle.sections.specs.Trigger.{deviceTrigger}
+use Rattle.sections.proofs.TriggerChain.{changes}
+use Rattle.sections.proofs.trigger.device_trigger.Statement.{statement}
+use Rattle.sections.proofs.trigger.device_trigger.Tie as tie
+
+pub device-trigger-spec : {M : Type 1} → statement M
+unfolding deviceTrigger
+device-trigger-spec =
+    tie.close
+    (tie.spec
+    (λ c κs. search needs)
+    (λ c. search needs)
+    (λ c. search needs)
+    (λ c κs. search needs)
+    (λ c. search changes depth 12)
+    (λ c. search changes depth 12))

@@ -1,0 +1,23 @@
+use borrow.Author.Needs.{needs}
+use Rattle.sections.specs.Trigger.{inputDeviceChange}
+use Rattle.sections.proofs.TriggerChain.{phrases}
+use Rattle.sections.proofs.trigger.input_device_change.Statement.{statement}
+use Rattle.sections.proofs.trigger.input_device_change.Tie as tie
+
+pub input-device-change-spec : {M : Type 1} → statement M
+unfolding inputDeviceChange
+input-device-change-spec =
+    tie.close
+    (tie.spec
+    (λ c. search needs)
+    (λ c κs. search needs)
+    (λ c. search needs)
+    (λ c. search needs)
+    (λ c κs. search needs)
+    (λ c. search needs)
+    (λ c. search needs)
+    (λ c. search phrases depth 12)
+    (λ c. search phrases depth 12)
+    (λ c. search needs)
+    (λ c κs. search needs)
+    (λ c. search phrases depth 12))

@@ -1,0 +1,29 @@
+use borrow.Author.Needs.{needs}
+use Rattle.sections.specs.Trigger.{laterTrigger}
+use Rattle.sections.proofs.TriggerChain.{choices}
+use Rattle.sections.proofs.trigger.later_trigger.Statement.{statement}
+use Rattle.sections.proofs.trigger.later_trigger.Tie as tie
+
+pub later-trigger-spec : {M : Type 1} → statement M
+unfolding laterTrigger
+later-trigger-spec =
+    tie.close
+    (tie.spec
+    (λ c. search needs)
+    (λ c κs. search needs)
+    (λ c κs. search needs)
+    (λ c. search choices depth 12)
+    (λ c. search needs)
+    (λ c κs. search needs)
+    (λ c κs. search needs)
+    (λ c. search choices depth 12)
+    (λ c. search needs)
+    (λ c κs. search needs)
+    (λ c κs. search needs)
+    (λ c. search choices depth 12)
+    (λ c. search needs)
+    (λ c κs. search needs)
+    (λ c κs. search needs)
+    (λ c. search choices depth 12)
+    (λ c κs. search needs)
+    (λ c. search choices depth 12))

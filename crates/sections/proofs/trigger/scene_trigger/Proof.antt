@@ -1,0 +1,22 @@
+use borrow.Author.Needs.{needs}
+use Rattle.references.specs.Limits.{lastScene}
+use Rattle.sections.specs.Trigger.{sceneTrigger}
+use Rattle.sections.proofs.TriggerChain.{scenes}
+use Rattle.sections.proofs.trigger.scene_trigger.Statement.{statement}
+use Rattle.sections.proofs.trigger.scene_trigger.Tie as tie
+
+pub scene-trigger-spec : {M : Type 1} → statement M
+unfolding sceneTrigger lastScene
+scene-trigger-spec =
+    tie.close
+    (tie.spec
+    (λ c κs. search needs)
+    (λ c. search needs)
+    (λ c. search needs)
+    (λ c κs. search needs)
+    (λ c. search needs)
+    (λ c. search needs)
+    (λ c κs. search needs)
+    (λ c. search scenes depth 12)
+    (λ c. search scenes depth 12)
+    (λ c. search scenes depth 12))
