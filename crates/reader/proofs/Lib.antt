@@ -1,0 +1,5 @@
+pub mod LoopLaws
+pub mod SectionLaws
+pub mod RuleLaws
+pub mod BufferLaws
+pub mod ReadLaws

@@ -1,0 +1,268 @@
+-- The call's questions one after the other are the definition of the whole call: what the parser reads from the buffer is what the text gives.
+use Prim.Native.Nat.{ℕ, _*_, _<_, _≤_}
+use native.Mathlib.Omega.{arith}
+use mathlib.Core.Path.{_≡_, refl, sym, ap, _∙_, subst}
+use mathlib.Core.Bool.{Bool, true, false}
+use mathlib.Core.List.{List, []}
+use lib.ListN.{length, take}
+use lib.Seq.{length-take-le}
+use lib.Dec.{ltb}
+use borrow.Author.Tests.{le-ltb, lt-ltb, ltb-true, ltb-false}
+use mir.Syntax.{w64}
+use mir.Val.{Fits}
+use Rattle.text.specs.Choice.{pick}
+use Rattle.text.proofs.Tests.{lt-yes, lt-no}
+use Rattle.text.specs.Place.{checkOf}
+use Rattle.text.specs.declared.place.Checked.{Checked}
+use Rattle.text.specs.declared.place.Checked.the-variants.{WellFormed, IllFormed}
+use Rattle.tokens.specs.Result.{Res, ok, no}
+use Rattle.tokens.specs.Record.{capacity, lineAt, columnAt}
+use Rattle.tokens.specs.Cursor.{tokens}
+use Rattle.tokens.specs.Lex.{Lexing, lexText, answerFrom, writtenFrom, lexAnswer, lexWords}
+use Rattle.tokens.specs.declared.cursor.Refusal.{Refusal}
+use Rattle.tokens.specs.declared.lexer.Lexed.{Lexed}
+use Rattle.tokens.specs.declared.lexer.Lexed.the-variants.{Tokens, Refused}
+use Rattle.references.specs.Sheet.{Names, namesOf, viewOf, sheetCheck}
+use Rattle.references.specs.declared.sheet.Sheet.{Sheet}
+use Rattle.sections.specs.Range.{rangeOf}
+use Rattle.sections.specs.Section.{Lists, ruleAt}
+use Rattle.sections.specs.Read.{triggersOf, conditionsOf, acceptedWith, refusedWith, recordWords, tokenLine, tokenColumn, parsed, ruleOf, lexedFrom, byText, bySheet, Outcome, readOf}
+use Rattle.sections.specs.Demand.{Ended, Exact}
+use Rattle.sections.specs.declared.lists.Triggers.{Triggers}
+use Rattle.sections.specs.declared.lists.Conditions.{Conditions}
+use Rattle.sections.specs.declared.lists.Answer.{Answer}
+use Rattle.sections.proofs.Theorem.{lexed-complete, few, exact}
+use Rattle.reader.specs.Parts.{toRule, placed, answered, lexedBy, textOutcome, sheetOutcome}
+use Rattle.reader.specs.declared.parts.Rule.{Rule}
+use Rattle.reader.proofs.RuleLaws.{one-answer}
+use Rattle.reader.proofs.BufferLaws.{buffer-size, records-count, line-in, column-in, end-line, end-column, line-past, column-past, answer-ended, answer-refused, buffer-records}
+
+-- the place in the records is the token's or the end's
+placed-parsed : {l : Lexing} {n : ℕ} → Ended l n → (r : Refusal) → placed (recordWords l) (end-line l) (end-column l) r ≡ parsed l (no r)
+unfolding placed parsed
+placed-parsed {l} {n} e r = by (ltb (r .token) (capacity (recordWords l))) refl
+  where
+    by : (b : Bool) → ltb (r .token) (capacity (recordWords l)) ≡ b →
+        pick b (refusedWith (r .number) (lineAt (recordWords l) (r .token)) (columnAt (recordWords l) (r .token)) (r .detail))
+        (refusedWith (r .number) (end-line l) (end-column l) (r .detail)) ≡
+        refusedWith (r .number) (tokenLine l (r .token)) (tokenColumn l (r .token)) (r .detail)
+    by true h =
+        let inside : r .token < n = let c = records-count e in let p = ltb-true (r .token) (capacity (recordWords l)) h in omega arith in
+        rw (line-in e (r .token) inside, column-in e (r .token) inside)
+    by false h =
+        let past : n ≤ r .token = let c = records-count e in let p = ltb-false (r .token) (capacity (recordWords l)) h in omega arith in
+        rw (line-past e (r .token) past, column-past e (r .token) past)
+
+answered-parsed : {l : Lexing} {n : ℕ} → Ended l n → (m : Res Lists) → answered (recordWords l) (end-line l) (end-column l) m ≡ parsed l m
+unfolding answered parsed
+answered-parsed e (ok lists i) = refl
+answered-parsed e (no r) = placed-parsed e r
+
+-- lexed into a buffer with room, and parsed from it
+module _ (text sheet words : List ℕ) (short : length text ≤ 16384) (room : 6144 ≤ length words) where
+  by-answer : (x : Lexed) → answerFrom 0 (lexText text) ≡ x →
+      lexedBy text sheet (writtenFrom 0 words (lexText text)) x ≡ lexedFrom text sheet (lexText text) (lexText text)
+  unfolding lexedBy
+  by-answer (Refused number line column) e = sym (answer-refused text sheet (lexText text) 0 (lexText text) e)
+  by-answer (Tokens count line column) e =
+      let a = answer-ended 0 (lexText text) e in
+      let n = a .0 in
+      let same : n ≡ count = let s = a .2 in omega arith in
+      let fits : n * 6 ≤ length words = let f = few text (a .1) in omega arith in
+      let records : take (count * 6) (writtenFrom 0 words (lexText text)) ≡ recordWords (lexText text) =
+      rw (← same) (buffer-records words (a .1) fits) in
+      rw (records, a .3, a .4) (answered-parsed (a .1) (ruleOf text (recordWords (lexText text)) sheet)) ∙
+      sym (lexed-complete text sheet (lexText text) (a .1))
+
+  lexed-same : lexedBy text sheet (lexWords text words) (lexAnswer text words) ≡ lexedFrom text sheet (lexText text) (lexText text)
+  unfolding lexAnswer lexWords
+  lexed-same = rw (le-ltb 16384 (length text) short, le-ltb (length words) 6144 room) (by-answer (answerFrom 0 (lexText text)) refl)
+
+  words-same : lexWords text words ≡ writtenFrom 0 words (lexText text)
+  unfolding lexWords
+  words-same = rw (le-ltb 16384 (length text) short, le-ltb (length words) 6144 room)
+
+  text-same : (c : Checked) → textOutcome text sheet words c ≡ byText text sheet words c
+  unfolding textOutcome byText
+  text-same WellFormed = rw (lexed-same, words-same)
+  text-same (IllFormed line column) = refl
+
+  pub sheet-same : (x : Sheet) → sheetOutcome text sheet words x ≡ bySheet text sheet words x
+  unfolding sheetOutcome bySheet
+  sheet-same Sheet.WellFormed = text-same (checkOf text)
+  sheet-same (Sheet.BadLine n) = refl
+
+-- an answer with tokens passed a question
+abbrev is-tokens : Lexed → Bool
+is-tokens (Tokens count line column) = true
+is-tokens (Refused number line column) = false
+
+passed : (b : Bool) (number : ℕ) (x : Lexed) {count line column : ℕ} → pick b (Refused number 0 0) x ≡ Tokens count line column →
+    (b ≡ false) × (x ≡ Tokens count line column)
+passed true number x e = absurd (let p = ap is-tokens e in let z : _≡_ {A = ℕ} 0 1 = cc in omega arith)
+passed false number x e = (refl, e)
+
+-- at most 1,024 records are counted, and they are in the buffer
+counted-few : (text words : List ℕ) {count line column : ℕ} → lexAnswer text words ≡ Tokens count line column → count ≤ 1024
+unfolding lexAnswer
+counted-few text words e =
+    let p = passed (ltb 16384 (length text)) 1 _ e in
+    let q = passed (ltb (length words) 6144) 2 _ (p .1) in
+    let a = answer-ended 0 (lexText text) (q .1) in
+    let f = few text (a .1) in
+    let s = a .2 in
+    omega arith
+
+counted-records : (text words : List ℕ) {count line column : ℕ} → lexAnswer text words ≡ Tokens count line column →
+    count * 6 ≤ length words
+unfolding lexAnswer
+counted-records text words e =
+    let p = passed (ltb 16384 (length text)) 1 _ e in
+    let q = passed (ltb (length words) 6144) 2 _ (p .1) in
+    let f = counted-few text words e in
+    let r = ltb-false (length words) 6144 (q .0) in
+    omega arith
+
+-- The code's steps. The lexer's answer x, and the buffer behind it:
+module _ (text words : List ℕ) {x : Lexed} (answer : x ≡ lexAnswer text words) where
+  lexed-size : length (lexWords text words) ≡ length words
+  unfolding lexWords
+  lexed-size = by (ltb 16384 (length text)) (ltb (length words) 6144)
+    where
+      by : (a b : Bool) → length (pick a words (pick b words (writtenFrom 0 words (lexText text)))) ≡ length words
+      by true b = refl
+      by false true = refl
+      by false false = buffer-size words (lexText text)
+
+  module _ {count line column : ℕ} (was : x ≡ Tokens count line column) where
+    in-words : count * 6 ≤ length words
+    in-words = counted-records text words (sym answer ∙ was)
+
+    pub records-fit : Fits w64 (count * 6)
+    records-fit = record { fits = let f = counted-few text words (sym answer ∙ was) in omega arith }
+
+    pub records-in : {buffer : List ℕ} → buffer ≡ lexWords text words → count * 6 ≤ length buffer
+    records-in e = rw (e, lexed-size) in-words
+
+    pub records-taken : {buffer : List ℕ} → buffer ≡ lexWords text words → count * 6 ≡ length (take (count * 6) buffer)
+    records-taken {buffer} e = sym (length-take-le (count * 6) buffer (records-in e))
+
+    pub lexed-yes : (sheet : List ℕ) {buffer : List ℕ} {r : Answer} → buffer ≡ lexWords text words →
+        r ≡ answered (take (count * 6) buffer) line column (ruleOf text (take (count * 6) buffer) sheet) →
+        r ≡ lexedBy text sheet (lexWords text words) (lexAnswer text words)
+    unfolding lexedBy
+    lexed-yes sheet e h = rw (← answer, was, ← e) h
+
+  pub lexed-no : (sheet : List ℕ) {number line column : ℕ} {r : Answer} → x ≡ Refused number line column → r ≡ refusedWith number line column 0 →
+      r ≡ lexedBy text sheet (lexWords text words) (lexAnswer text words)
+  unfolding lexedBy
+  lexed-no sheet was h = rw (← answer, was) h
+
+-- a refusal, and its place
+pub refused-made : (number line column detail : ℕ) {triggers : Triggers} {conditions : Conditions} → triggers ≡ triggersOf [] →
+    conditions ≡ conditionsOf [] →
+    record { number = number; line = line; column = column; detail = detail; triggers = triggers; conditions = conditions } ≡
+    refusedWith number line column detail
+unfolding refusedWith
+refused-made number line column detail x y = rw (x, y)
+
+module _ (words : List ℕ) (line column : ℕ) (refusal : Refusal) {count : ℕ} (counted : count ≡ capacity words) {a : Answer} where
+  pub placed-in : {l c : ℕ} → refusal .token < count → l ≡ lineAt words (refusal .token) → c ≡ columnAt words (refusal .token) →
+      a ≡ refusedWith (refusal .number) l c (refusal .detail) → a ≡ placed words line column refusal
+  unfolding placed
+  placed-in h x y e = lt-yes (refusal .token) (capacity words) _ _ (rw (← counted) h) (e ∙ rw (x, y))
+
+  pub placed-past : count ≤ refusal .token → a ≡ refusedWith (refusal .number) line column (refusal .detail) → a ≡ placed words line column refusal
+  unfolding placed
+  placed-past h e = lt-no (refusal .token) (capacity words) _ _ (rw (← counted) h) e
+
+-- the parser's answer on the records; the call's primary is the sheet's
+view-same : (sheet : List ℕ) (p : ℕ) → p ≡ namesOf sheet .primary → viewOf (record { primary = p }) sheet ≡ namesOf sheet
+unfolding viewOf namesOf
+view-same sheet p e = rw e
+
+module _ (text words sheet : List ℕ) (line column : ℕ) {p : ℕ} (primary : p ≡ namesOf sheet .primary) {rule : Rule}
+    (read : rule ≡ toRule (ruleAt (tokens text words) (viewOf (record { primary = p }) sheet) (rangeOf words) (capacity words))) where
+  rule-is : rule ≡ toRule (ruleOf text words sheet)
+  unfolding ruleOf
+  rule-is = read ∙ ap (λ (names : Names). toRule (ruleAt (tokens text words) names (rangeOf words) (capacity words))) (view-same sheet p primary)
+
+  yes-by : (m : Res Lists) → rule ≡ toRule m → rule .accepted ≡ true →
+      record { number = 0; line = 0; column = 0; detail = 0; triggers = rule .triggers; conditions = rule .conditions } ≡ answered words line column m
+  unfolding toRule answered acceptedWith
+  yes-by (ok lists i) e h =
+      ap
+      (λ (r : Rule). record { number = 0; line = 0; column = 0; detail = 0; triggers = r .triggers; conditions = r .conditions })
+      e
+  yes-by (no r) e h = absurd (one-answer h (ap (λ (r : Rule). r .accepted) e))
+
+  no-by : (m : Res Lists) {a : Answer} → rule ≡ toRule m → rule .accepted ≡ false → a ≡ placed words line column (rule .refusal) →
+      a ≡ answered words line column m
+  unfolding toRule answered
+  no-by (ok lists i) e h w = absurd (one-answer (ap (λ (r : Rule). r .accepted) e) h)
+  no-by (no r) e h w = w ∙ ap (λ (r : Rule). placed words line column (r .refusal)) e
+
+  pub parsed-yes : rule .accepted ≡ true →
+      record { number = 0; line = 0; column = 0; detail = 0; triggers = rule .triggers; conditions = rule .conditions } ≡
+      answered words line column (ruleOf text words sheet)
+  parsed-yes h = yes-by (ruleOf text words sheet) rule-is h
+
+  pub parsed-no : {a : Answer} → rule .accepted ≡ false → a ≡ placed words line column (rule .refusal) →
+      a ≡ answered words line column (ruleOf text words sheet)
+  parsed-no h w = no-by (ruleOf text words sheet) rule-is h w
+
+-- a question's answer, taken apart
+pub text-answer : (text sheet words : List ℕ) (x : Checked) {r v : Checked} {a : Answer} → r ≡ x → r ≡ v → a ≡ textOutcome text sheet words v .answer →
+    a ≡ textOutcome text sheet words x .answer
+text-answer text sheet words x e m h = rw (← e, m) h
+
+pub text-buffer : (text sheet words : List ℕ) (x : Checked) {r v : Checked} {b : List ℕ} → r ≡ x → r ≡ v → b ≡ textOutcome text sheet words v .buffer →
+    b ≡ textOutcome text sheet words x .buffer
+text-buffer text sheet words x e m h = rw (← e, m) h
+
+pub sheet-answer : (text sheet words : List ℕ) (x : Sheet) {r v : Sheet} {a : Answer} → r ≡ x → r ≡ v → a ≡ sheetOutcome text sheet words v .answer →
+    a ≡ sheetOutcome text sheet words x .answer
+sheet-answer text sheet words x e m h = rw (← e, m) h
+
+pub sheet-buffer : (text sheet words : List ℕ) (x : Sheet) {r v : Sheet} {b : List ℕ} → r ≡ x → r ≡ v → b ≡ sheetOutcome text sheet words v .buffer →
+    b ≡ sheetOutcome text sheet words x .buffer
+sheet-buffer text sheet words x e m h = rw (← e, m) h
+
+-- questions 1 and 2, and what lies behind them
+module _ (text sheet words : List ℕ) where
+  long-same : 16384 < length text → record { answer = refusedWith 1 0 0 0; buffer = words } ≡ readOf text sheet words
+  unfolding readOf
+  long-same h = rw (lt-ltb 16384 (length text) h)
+
+  small-same : length text ≤ 16384 → length words < 6144 → record { answer = refusedWith 2 0 0 0; buffer = words } ≡ readOf text sheet words
+  unfolding readOf
+  small-same s h = rw (le-ltb 16384 (length text) s, lt-ltb (length words) 6144 h)
+
+  asked-same : length text ≤ 16384 → 6144 ≤ length words → sheetOutcome text sheet words (sheetCheck sheet) ≡ readOf text sheet words
+  unfolding readOf
+  asked-same s h = rw (le-ltb 16384 (length text) s, le-ltb (length words) 6144 h) (sheet-same text sheet words s h (sheetCheck sheet))
+
+  module _ {a : Answer} where
+    pub long-answer : 16384 < length text → a ≡ refusedWith 1 0 0 0 → a ≡ readOf text sheet words .answer
+    long-answer h e = e ∙ ap (λ (o : Outcome). o .answer) (long-same h)
+
+    pub small-answer : length text ≤ 16384 → length words < 6144 → a ≡ refusedWith 2 0 0 0 → a ≡ readOf text sheet words .answer
+    small-answer s h e = e ∙ ap (λ (o : Outcome). o .answer) (small-same s h)
+
+    pub asked-answer : length text ≤ 16384 → 6144 ≤ length words → a ≡ sheetOutcome text sheet words (sheetCheck sheet) .answer →
+        a ≡ readOf text sheet words .answer
+    asked-answer s h e = e ∙ ap (λ (o : Outcome). o .answer) (asked-same s h)
+
+    -- the third demand
+    pub exactly : a ≡ readOf text sheet words .answer → Exact text sheet (length words) a
+    exactly e = subst (λ (x : Answer). Exact text sheet (length words) x) (sym e) (exact text sheet words)
+
+  pub long-buffer : 16384 < length text → words ≡ readOf text sheet words .buffer
+  long-buffer h = ap (λ (o : Outcome). o .buffer) (long-same h)
+
+  pub small-buffer : length text ≤ 16384 → length words < 6144 → words ≡ readOf text sheet words .buffer
+  small-buffer s h = ap (λ (o : Outcome). o .buffer) (small-same s h)
+
+  pub asked-buffer : {b : List ℕ} → length text ≤ 16384 → 6144 ≤ length words → b ≡ sheetOutcome text sheet words (sheetCheck sheet) .buffer →
+      b ≡ readOf text sheet words .buffer
+  asked-buffer s h e = e ∙ ap (λ (o : Outcome). o .buffer) (asked-same s h)

@@ -1,0 +1,221 @@
+-- The loops of the two sections, and their answers taken apart.
+use Prim.Native.Nat.{ℕ, _+_, _-_, _<_, _≤_}
+use native.Mathlib.Omega.{arith}
+use mathlib.Core.Path.{_≡_, refl, sym, ap, _∙_}
+use mathlib.Core.Bool.{true}
+use mathlib.Core.List.{List, [], _∷_, _++_}
+use lib.ListN.{length, length-append}
+use Rattle.text.specs.Literal.{ascii}
+use Rattle.tokens.specs.Result.{Res, ok, no, bind}
+use Rattle.tokens.specs.Cursor.{Tok, isWord, accepted}
+use Rattle.tokens.specs.declared.cursor.Cursor.{Cursor}
+use Rattle.tokens.specs.declared.cursor.Refusal.{Refusal}
+use Rattle.tokens.specs.declared.cursor.Accepted.{Accepted}
+use Rattle.tokens.specs.declared.cursor.Accepted.the-variants.{Yes, Left}
+use Rattle.references.specs.Sheet.{Names}
+use Rattle.sections.specs.Trigger.{triggerAt, toTrigger}
+use Rattle.sections.specs.Condition.{conditionAt, toCondition}
+use Rattle.sections.specs.Section.{repeated}
+use Rattle.sections.specs.Read.{padded, triggersOf, conditionsOf}
+use Rattle.sections.proofs.AnswerChain.{is-trigger, is-condition}
+use Rattle.sections.specs.declared.name.Name.{Name}
+use Rattle.sections.specs.declared.trigger.Trigger.{Trigger}
+use Rattle.sections.specs.declared.trigger.TriggerAnswer.{TriggerAnswer}
+use Rattle.sections.specs.declared.condition.Condition.{Condition}
+use Rattle.sections.specs.declared.condition.Condition.the-variants.{ControllerActive}
+use Rattle.sections.specs.declared.lists.ConditionRow.{ConditionRow}
+use Rattle.sections.specs.declared.condition.ConditionAnswer.{ConditionAnswer}
+use Rattle.sections.specs.declared.lists.Triggers.{Triggers}
+use Rattle.sections.specs.declared.lists.Conditions.{Conditions}
+use Rattle.reader.specs.Parts.{withTrigger, withCondition, unrefused, toWhens, toIfs}
+use Rattle.reader.specs.declared.parts.Whens.{Whens}
+use Rattle.reader.specs.declared.parts.Ifs.{Ifs}
+use Rattle.reader.proofs.LoopLaws.{Going, begin, begin-with, at-last, too-many, one-refused, one-more, was-left, was-there}
+
+pub trigger-counts : (xs : List Trigger) → triggersOf xs .count ≡ length xs
+unfolding triggersOf
+trigger-counts xs = refl
+
+pub trigger-puts : (xs : List Trigger) (x : Trigger) → length xs < 4 → withTrigger (triggersOf xs) x ≡ triggersOf (xs ++ (x ∷ []))
+unfolding withTrigger triggersOf padded
+trigger-puts [] x h = refl
+trigger-puts (a ∷ []) x h = refl
+trigger-puts (a ∷ (b ∷ [])) x h = refl
+trigger-puts (a ∷ (b ∷ (c ∷ []))) x h = refl
+trigger-puts (a ∷ (b ∷ (c ∷ (d ∷ xs)))) x h = absurd (omega arith)
+
+pub condition-counts : (xs : List Condition) → conditionsOf xs .count ≡ length xs
+unfolding conditionsOf
+condition-counts xs = refl
+
+pub condition-puts : (xs : List Condition) (x : Condition) → length xs < 4 → withCondition (conditionsOf xs) x ≡ conditionsOf (xs ++ (x ∷ []))
+unfolding withCondition conditionsOf padded
+condition-puts [] x h = refl
+condition-puts (a ∷ []) x h = refl
+condition-puts (a ∷ (b ∷ [])) x h = refl
+condition-puts (a ∷ (b ∷ (c ∷ []))) x h = refl
+condition-puts (a ∷ (b ∷ (c ∷ (d ∷ xs)))) x h = absurd (omega arith)
+
+-- a list of one
+pub one-made : (y : Condition) {r none : Conditions} → r ≡ withCondition none y → none ≡ conditionsOf [] → r ≡ conditionsOf (y ∷ [])
+one-made y e n = e ∙ ap (λ (l : Conditions). withCondition l y) n ∙ condition-puts [] y (omega arith)
+
+-- a list that has room grows by one, so that fewer are left
+trigger-grows : (xs : List Trigger) (list : Triggers) (x : Trigger) {more : Triggers} → list ≡ triggersOf xs → length xs ≤ 4 → (list .count ≡ 4 → ⊥) →
+    more ≡ withTrigger list x → 4 - more .count < 4 - list .count
+unfolding triggersOf
+trigger-grows xs list x {more} s few f e =
+    let here : list .count ≡ length xs = ap (λ (l : Triggers). l .count) s in
+    let room : length xs < 4 = omega arith in
+    let grown : more ≡ triggersOf (xs ++ (x ∷ [])) = e ∙ ap (λ (l : Triggers). withTrigger l x) s ∙ trigger-puts xs x room in
+    let there : more .count ≡ length (xs ++ (x ∷ [])) = ap (λ (l : Triggers). l .count) grown in
+    let one = length-append xs (x ∷ []) in
+    omega arith
+
+condition-grows : (xs : List Condition) (list : Conditions) (x : Condition) {more : Conditions} → list ≡ conditionsOf xs → length xs ≤ 4 → (list .count ≡ 4 → ⊥) →
+    more ≡ withCondition list x → 4 - more .count < 4 - list .count
+unfolding conditionsOf
+condition-grows xs list x {more} s few f e =
+    let here : list .count ≡ length xs = ap (λ (l : Conditions). l .count) s in
+    let room : length xs < 4 = omega arith in
+    let grown : more ≡ conditionsOf (xs ++ (x ∷ [])) = e ∙ ap (λ (l : Conditions). withCondition l x) s ∙ condition-puts xs x room in
+    let there : more .count ≡ length (xs ++ (x ∷ [])) = ap (λ (l : Conditions). l .count) grown in
+    let one = length-append xs (x ∷ []) in
+    omega arith
+
+module _ (t : ℕ → Tok) (names : Names) (range : ℕ → Name) (fuel : ℕ) where
+  abbrev pub When-going : Res (List Trigger) → Triggers → ℕ → Type 0
+  When-going =
+      Going triggersOf withTrigger (λ (l : Triggers). l .count) trigger-counts trigger-puts t (ascii "when") 37 (triggerAt t names range fuel)
+
+  abbrev pub And-going : Res (List Condition) → Conditions → ℕ → Type 0
+  And-going =
+      Going conditionsOf withCondition (λ (l : Conditions). l .count) condition-counts condition-puts t (ascii "and") 39
+      (conditionAt t names range fuel)
+
+  pub whens-begin : (i : ℕ) {list : Triggers} → list ≡ triggersOf [] → When-going (repeated t (ascii "when") 37 (triggerAt t names range fuel) 4 i) list i
+  whens-begin i e =
+      begin triggersOf withTrigger (λ (l : Triggers). l .count) trigger-counts trigger-puts t (ascii "when") 37 (triggerAt t names range fuel) i e
+
+  module _ {whole : Res (List Trigger)} {list : Triggers} {p : Cursor} {a : Accepted} (g : When-going whole list (p .index))
+      (asked : a ≡ accepted (isWord t (ascii "when") (p .index)) (p .index)) where
+    -- the word is not there: the list is finished
+    pub whens-end : {r : Whens} → a ≡ Left → r ≡ record { accepted = true; refusal = unrefused; next = p; list = list } → r ≡ toWhens whole
+    unfolding toWhens
+    whens-end m e =
+        e ∙ rw (g .stored, at-last triggersOf withTrigger (λ (l : Triggers). l .count) trigger-counts trigger-puts t (ascii "when") 37 (triggerAt t names range fuel) g (was-left _ _ asked m))
+
+    module _ {next : Cursor} (m : a ≡ Yes next) where
+      there : (isWord t (ascii "when") (p .index) ≡ true) × (next .index ≡ p .index + 1)
+      there = was-there _ _ asked m
+
+      -- the list is full
+      pub whens-full : {r : Whens} {refusal : Refusal} → list .count ≡ 4 → refusal ≡ record { number = 37; token = p .index; detail = 0 } →
+          r ≡ toWhens (no refusal) → r ≡ toWhens whole
+      whens-full f h e =
+          e ∙ rw (h, too-many triggersOf withTrigger (λ (l : Triggers). l .count) trigger-counts trigger-puts t (ascii "when") 37 (triggerAt t names range fuel) g (there .0) f)
+
+      module _ (f : list .count ≡ 4 → ⊥) {one : TriggerAnswer} (read : one ≡ toTrigger (triggerAt t names range fuel (next .index))) where
+        -- the form is refused
+        pub whens-stop : {r : Whens} {refusal : Refusal} → one ≡ TriggerAnswer.No refusal → r ≡ toWhens (no refusal) → r ≡ toWhens whole
+        whens-stop {refusal = refusal} w e =
+            e ∙
+            rw (one-refused triggersOf withTrigger (λ (l : Triggers). l .count) trigger-counts trigger-puts t (ascii "when") 37 (triggerAt t names range fuel) g (there .0) f {r = refusal} (rw (← there .1) (is-trigger _ read w)))
+
+        -- one more
+        pub whens-on : {x : Trigger} {behind : Cursor} {more : Triggers} → one ≡ TriggerAnswer.Got x behind → more ≡ withTrigger list x → When-going whole more (behind .index)
+        whens-on w e =
+            one-more triggersOf withTrigger (λ (l : Triggers). l .count) trigger-counts trigger-puts t (ascii "when") 37 (triggerAt t names range fuel) g (there .0) f (rw (← there .1) (is-trigger _ read w)) e
+
+        pub whens-falls : (x : Trigger) {more : Triggers} → more ≡ withTrigger list x → 4 - more .count < 4 - list .count
+        whens-falls x e = trigger-grows (g .entries) list x (g .stored) (let r = g .room in omega arith) f e
+
+  -- the conditions behind the first x
+  abbrev pub behind-first : Condition → ℕ → Res (List Condition)
+  behind-first x i = bind (repeated t (ascii "and") 39 (conditionAt t names range fuel) 3 i) (λ ys j. ok (x ∷ ys) j)
+
+  -- the loop began with a list of one
+  pub record And-loop (begun : Conditions) (start : ℕ) (list : Conditions) (i : ℕ) : Type 0 where
+    pub first : Condition
+    pub alone : begun ≡ conditionsOf (first ∷ [])
+    pub going : And-going (behind-first first start) list i
+
+  pub ands-begin : (x : Condition) (i : ℕ) {list : Conditions} → list ≡ conditionsOf (x ∷ []) → And-loop list i list i
+  ands-begin x i e =
+      record {
+        first = x;
+        alone = e;
+        going =
+            begin-with conditionsOf withCondition (λ (l : Conditions). l .count) condition-counts condition-puts t (ascii "and") 39
+            (conditionAt t names range fuel) x i e;
+      }
+
+  -- the list that it began with says which condition was first
+  same-first : (x y : Condition) → conditionsOf (x ∷ []) ≡ conditionsOf (y ∷ []) → x ≡ y
+  unfolding conditionsOf padded
+  same-first x y e = ap (λ (l : Conditions). first-of (l .rows)) e
+    where
+      first-of : List ConditionRow → Condition
+      first-of [] = ControllerActive
+      first-of (r ∷ rs) = r .condition
+
+  module _ {begun list : Conditions} {start : ℕ} {p : Cursor} {a : Accepted} (g : And-loop begun start list (p .index))
+      (asked : a ≡ accepted (isWord t (ascii "and") (p .index)) (p .index)) where
+    begun-with : (x : Condition) → begun ≡ conditionsOf (x ∷ []) → g .first ≡ x
+    begun-with x e = same-first (g .first) x (sym (g .alone) ∙ e)
+
+    -- the word is not there: the list is finished
+    pub ands-end : (whole : Res (List Condition)) (x : Condition) {r : Ifs} → begun ≡ conditionsOf (x ∷ []) → a ≡ Left →
+        r ≡ record { accepted = true; refusal = unrefused; next = p; list = list } → behind-first x start ≡ whole → r ≡ toIfs whole
+    unfolding toIfs
+    ands-end whole x b m e h =
+        e ∙
+        rw (
+          ← h,
+          ← begun-with x b,
+          g .going .stored,
+          at-last conditionsOf withCondition (λ (l : Conditions). l .count) condition-counts condition-puts t (ascii "and") 39 (conditionAt t names range fuel) (g .going) (was-left _ _ asked m),
+        )
+
+    module _ {next : Cursor} (m : a ≡ Yes next) where
+      and-there : (isWord t (ascii "and") (p .index) ≡ true) × (next .index ≡ p .index + 1)
+      and-there = was-there _ _ asked m
+
+      -- the list is full
+      pub ands-full : (whole : Res (List Condition)) (x : Condition) {r : Ifs} {refusal : Refusal} → begun ≡ conditionsOf (x ∷ []) →
+          list .count ≡ 4 → refusal ≡ record { number = 39; token = p .index; detail = 0 } → r ≡ toIfs (no refusal) →
+          behind-first x start ≡ whole → r ≡ toIfs whole
+      ands-full whole x b f h e w =
+          e ∙
+          rw (
+            h,
+            ← w,
+            ← begun-with x b,
+            too-many conditionsOf withCondition (λ (l : Conditions). l .count) condition-counts condition-puts t (ascii "and") 39 (conditionAt t names range fuel) (g .going) (and-there .0) f,
+          )
+
+      module _ (f : list .count ≡ 4 → ⊥) {one : ConditionAnswer} (read : one ≡ toCondition (conditionAt t names range fuel (next .index))) where
+        -- the form is refused
+        pub ands-stop : (whole : Res (List Condition)) (x : Condition) {r : Ifs} {refusal : Refusal} → begun ≡ conditionsOf (x ∷ []) →
+            one ≡ ConditionAnswer.No refusal → r ≡ toIfs (no refusal) →
+            behind-first x start ≡ whole → r ≡ toIfs whole
+        ands-stop whole x {refusal = refusal} b w e h =
+            e ∙
+            rw (
+              ← h,
+              ← begun-with x b,
+              one-refused conditionsOf withCondition (λ (l : Conditions). l .count) condition-counts condition-puts t (ascii "and") 39 (conditionAt t names range fuel) (g .going) (and-there .0) f {r = refusal} (rw (← and-there .1) (is-condition _ read w)),
+            )
+
+        -- one more
+        pub ands-on : {y : Condition} {behind : Cursor} {more : Conditions} → one ≡ ConditionAnswer.Got y behind → more ≡ withCondition list y →
+            And-loop begun start more (behind .index)
+        ands-on w e =
+            record {
+              first = g .first;
+              alone = g .alone;
+              going = one-more conditionsOf withCondition (λ (l : Conditions). l .count) condition-counts condition-puts t (ascii "and") 39 (conditionAt t names range fuel) (g .going) (and-there .0) f (rw (← and-there .1) (is-condition _ read w)) e;
+            }
+
+        pub ands-falls : (y : Condition) {more : Conditions} → more ≡ withCondition list y → 4 - more .count < 4 - list .count
+        ands-falls y e = condition-grows (g .going .entries) list y (g .going .stored) (let r = g .going .room in omega arith) f e

@@ -1,0 +1,21 @@
+use borrow.Author.Needs.{needs}
+use Rattle.reader.proofs.ReadLaws.{records-fit, records-in, records-taken, lexed-yes, lexed-no}
+use Rattle.reader.proofs.read.lex_and_parse.Statement.{statement}
+use Rattle.reader.proofs.read.lex_and_parse.Tie as tie
+
+pub lex-and-parse-spec : {M : Type 1} → statement M
+lex-and-parse-spec =
+    tie.close
+    (tie.spec
+    (λ c κs. search needs)
+    (λ c. search needs)
+    (λ c κs. search needs)
+    (λ c. search needs)
+    (λ c. search records-fit)
+    (λ c. search records-in)
+    (λ c. search records-taken)
+    (λ c κs. search needs)
+    (λ c. search needs)
+    (λ c. (search lexed-no, search needs))
+    (λ c. search needs)
+    (λ c. (search lexed-yes, search needs)))

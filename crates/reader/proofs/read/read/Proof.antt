@@ -1,0 +1,16 @@
+use borrow.Author.Needs.{needs}
+use Rattle.reader.proofs.ReadLaws.{long-answer, long-buffer, small-answer, small-buffer, asked-answer, asked-buffer, exactly}
+use Rattle.reader.proofs.read.read.Statement.{statement}
+use Rattle.reader.proofs.read.read.Tie as tie
+
+pub read-spec : {M : Type 1} → statement M
+read-spec =
+    tie.close
+    (tie.spec
+    (λ c κs. search needs)
+    (λ c. ((search long-answer, search long-buffer), search (exactly, long-answer)))
+    (λ c κs. search needs)
+    (λ c. ((search small-answer, search small-buffer), search (exactly, small-answer)))
+    (λ c κs. search needs)
+    (λ c. search needs)
+    (λ c. ((search asked-answer, search asked-buffer), search (exactly, asked-answer))))

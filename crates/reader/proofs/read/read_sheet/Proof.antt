@@ -1,0 +1,19 @@
+use borrow.Author.Needs.{needs}
+use Rattle.reader.specs.Parts.{sheetOutcome}
+use Rattle.reader.proofs.ReadLaws.{sheet-answer, sheet-buffer}
+use Rattle.reader.proofs.read.read_sheet.Statement.{statement}
+use Rattle.reader.proofs.read.read_sheet.Tie as tie
+
+pub read-sheet-spec : {M : Type 1} → statement M
+unfolding sheetOutcome
+read-sheet-spec =
+    tie.close
+    (tie.spec
+    (λ c κs. search needs)
+    (λ c. search needs)
+    (λ c κs. search needs)
+    (λ c. search needs)
+    (λ c κs. search needs)
+    (λ c. (search sheet-answer, search sheet-buffer))
+    (λ c. search needs)
+    (λ c. (search sheet-answer, search sheet-buffer)))

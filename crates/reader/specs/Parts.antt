@@ -1,0 +1,92 @@
+-- The answers of the reader's parts: structs, since they hold arrays. One refused has the refusal and empty lists.
+use Prim.Native.Nat.{ℕ, _+_, _*_}
+use mathlib.Core.Bool.{true, false}
+use mathlib.Core.List.{List, []}
+use lib.ListN.{set, take}
+use lib.Dec.{ltb, eqb}
+use Rattle.text.specs.Choice.{pick}
+use Rattle.text.specs.Place.{checkOf}
+use Rattle.text.specs.declared.place.Checked.{Checked}
+use Rattle.text.specs.declared.place.Checked.the-variants.{WellFormed, IllFormed}
+use Rattle.tokens.specs.Result.{Res, ok, no, refuse}
+use Rattle.tokens.specs.Record.{capacity, lineAt, columnAt}
+use Rattle.tokens.specs.Cursor.{Tok, at}
+use Rattle.tokens.specs.Lex.{lexAnswer, lexWords}
+use Rattle.tokens.specs.declared.lexer.Lexed.{Lexed}
+use Rattle.tokens.specs.declared.lexer.Lexed.the-variants.{Tokens}
+use Rattle.references.specs.declared.sheet.Sheet.{Sheet}
+use Rattle.tokens.specs.declared.cursor.Refusal.{Refusal}
+use Rattle.sections.specs.Section.{Lists}
+use Rattle.sections.specs.Read.{triggersOf, conditionsOf, acceptedWith, refusedWith, ruleOf, Outcome}
+use Rattle.sections.specs.declared.trigger.Trigger.{Trigger}
+use Rattle.sections.specs.declared.condition.Condition.{Condition}
+use Rattle.sections.specs.declared.lists.Triggers.{Triggers}
+use Rattle.sections.specs.declared.lists.Conditions.{Conditions}
+use Rattle.sections.specs.declared.lists.Answer.{Answer}
+use Rattle.reader.specs.declared.parts.Whens.{Whens}
+use Rattle.reader.specs.declared.parts.Ifs.{Ifs}
+use Rattle.reader.specs.declared.parts.Rule.{Rule}
+
+-- a list with one more entry; a full one stays
+unfoldable pub withTrigger : Triggers → Trigger → Triggers
+withTrigger l x =
+    pick (ltb (l .count) 4) (record { rows = set (l .rows) (l .count) (record { trigger = x }); count = l .count + 1 }) l
+
+unfoldable pub withCondition : Conditions → Condition → Conditions
+withCondition l y =
+    pick (ltb (l .count) 4) (record { rows = set (l .rows) (l .count) (record { condition = y }); count = l .count + 1 }) l
+
+-- no refusal
+abbrev pub unrefused : Refusal
+unrefused = record { number = 0; token = 0; detail = 0 }
+
+unfoldable pub toWhens : Res (List Trigger) → Whens
+toWhens (ok xs i) = record { accepted = true; refusal = unrefused; next = at i; list = triggersOf xs }
+toWhens (no r) = record { accepted = false; refusal = r; next = at 0; list = triggersOf [] }
+
+unfoldable pub toIfs : Res (List Condition) → Ifs
+toIfs (ok ys i) = record { accepted = true; refusal = unrefused; next = at i; list = conditionsOf ys }
+toIfs (no r) = record { accepted = false; refusal = r; next = at 0; list = conditionsOf [] }
+
+unfoldable pub toRule : Res Lists → Rule
+toRule (ok l i) =
+    record { accepted = true; refusal = unrefused; triggers = triggersOf (l .triggers); conditions = conditionsOf (l .conditions) }
+toRule (no r) = record { accepted = false; refusal = r; triggers = triggersOf []; conditions = conditionsOf [] }
+
+-- both lists, if the text is at an end; else 41
+unfoldable pub ruleEnd : (ℕ → Tok) → Triggers → Conditions → ℕ → Rule
+ruleEnd t xs ys i =
+    pick (eqb (t i .kind) 0) (record { accepted = true; refusal = unrefused; triggers = xs; conditions = ys }) (toRule (refuse 41 i))
+
+-- the rule whose triggers are read already
+unfoldable pub ruleWith : (ℕ → Tok) → Triggers → Res (List Condition) → Rule
+ruleWith t xs (ok ys i) = ruleEnd t xs (conditionsOf ys) i
+ruleWith t xs (no r) = toRule (no r)
+
+-- the place of a refusal's token in the records, or the end's
+unfoldable pub placed : List ℕ → ℕ → ℕ → Refusal → Answer
+placed words line column r =
+    pick (ltb (r .token) (capacity words))
+    (refusedWith (r .number) (lineAt words (r .token)) (columnAt words (r .token)) (r .detail))
+    (refusedWith (r .number) line column (r .detail))
+
+-- what the parser answers on these records; line and column are the end's
+unfoldable pub answered : List ℕ → ℕ → ℕ → Res Lists → Answer
+answered words line column (ok l i) = acceptedWith (l .triggers) (l .conditions)
+answered words line column (no r) = placed words line column r
+
+-- what is answered once the text is lexed into these words
+unfoldable pub lexedBy : List ℕ → List ℕ → List ℕ → Lexed → Answer
+lexedBy text sheet words (Tokens count line column) =
+    answered (take (count * 6) words) line column (ruleOf text (take (count * 6) words) sheet)
+lexedBy text sheet words (Lexed.Refused number line column) = refusedWith number line column 0
+
+-- the call from question 4 on, and from question 3 on
+unfoldable pub textOutcome : List ℕ → List ℕ → List ℕ → Checked → Outcome
+textOutcome text sheet words WellFormed =
+    record { answer = lexedBy text sheet (lexWords text words) (lexAnswer text words); buffer = lexWords text words }
+textOutcome text sheet words (IllFormed line column) = record { answer = refusedWith 4 line column 0; buffer = words }
+
+unfoldable pub sheetOutcome : List ℕ → List ℕ → List ℕ → Sheet → Outcome
+sheetOutcome text sheet words Sheet.WellFormed = textOutcome text sheet words (checkOf text)
+sheetOutcome text sheet words (Sheet.BadLine n) = record { answer = refusedWith 3 n 0 0; buffer = words }

@@ -1,0 +1,96 @@
+// The parts of a call's answer, and the lists as they grow.
+use sections::condition::Condition;
+use sections::lists::Answer;
+use sections::lists::ConditionRow;
+use sections::lists::Conditions;
+use sections::lists::TriggerRow;
+use sections::lists::Triggers;
+use sections::trigger::Trigger;
+use tokens::cursor::Cursor;
+use tokens::cursor::Refusal;
+ghost use mathlib.Core.Path.{_≡_};
+ghost use mathlib.Core.Bool.{true, false};
+ghost use mathlib.Core.List.{[], _∷_};
+ghost use Rattle.tokens.specs.Cursor.{at};
+ghost use Rattle.sections.specs.Read.{triggersOf, conditionsOf, refusedWith};
+ghost use Rattle.reader.specs.Parts.{withTrigger, withCondition, unrefused, placed};
+
+// The triggers and the cursor behind them, or a refusal.
+pub struct Whens {
+    pub accepted: bool,
+    pub refusal: Refusal,
+    pub next: Cursor,
+    pub list: Triggers,
+}
+
+// The conditions and the cursor behind them, or a refusal.
+pub struct Ifs {
+    pub accepted: bool,
+    pub refusal: Refusal,
+    pub next: Cursor,
+    pub list: Conditions,
+}
+
+// Both lists, or a refusal.
+pub struct Rule {
+    pub accepted: bool,
+    pub refusal: Refusal,
+    pub triggers: Triggers,
+    pub conditions: Conditions,
+}
+
+pub fn no_triggers() -> Triggers
+    ensures { λ r. ⌜ r ≡ triggersOf [] ⌝ }
+{
+    Triggers {
+        rows: [TriggerRow {
+            trigger: Trigger::HttpTrigger,
+        }; 4],
+        count: 0,
+    }
+}
+
+pub fn no_conditions() -> Conditions
+    ensures { λ r. ⌜ r ≡ conditionsOf [] ⌝ }
+{
+    Conditions {
+        rows: [ConditionRow {
+            condition: Condition::ControllerActive,
+        }; 4],
+        count: 0,
+    }
+}
+
+// The list with one more trigger. A full one stays as it is.
+pub fn with_trigger(list: Triggers, x: Trigger) -> Triggers
+    ensures { λ r. ⌜ r ≡ withTrigger list x ⌝ }
+{
+    let at = list.count;
+    if 4 <= at {
+        return list;
+    }
+    let mut more = list;
+    more.rows[at] = TriggerRow { trigger: x };
+    more.count = at + 1;
+    more
+}
+
+pub fn with_condition(list: Conditions, y: Condition) -> Conditions
+    ensures { λ r. ⌜ r ≡ withCondition list y ⌝ }
+{
+    let at = list.count;
+    if 4 <= at {
+        return list;
+    }
+    let mut more = list;
+    more.rows[at] = ConditionRow { condition: y };
+    more.count = at + 1;
+    more
+}
+
+// A list of one condition.
+pub fn one_condition(y: Condition) -> Conditions
+    ensures { λ r. ⌜ r ≡ conditionsOf (y ∷ []) ⌝ }
+{
+    with_condition(no_conditions(), y)
+}

@@ -1,0 +1,234 @@
+// The `when` and `if` sections, ported from parser/mod.rs.
+use crate::parts;
+use crate::parts::Ifs;
+use crate::parts::Rule;
+use crate::parts::Whens;
+use references::sheet::Settings;
+use sections::condition;
+use sections::condition::Condition;
+use sections::condition::ConditionAnswer;
+use sections::lists::Conditions;
+use sections::lists::Triggers;
+use sections::trigger;
+use sections::trigger::TriggerAnswer;
+use tokens::cursor::Accepted;
+use tokens::cursor::Cursor;
+use tokens::cursor::Refusal;
+ghost use mathlib.Core.Path.{_≡_};
+ghost use mathlib.Core.List.{_∷_};
+ghost use mathlib.Core.Bool.{true};
+ghost use Rattle.text.specs.Literal.{ascii};
+ghost use Rattle.tokens.specs.Result.{ok, no, bind};
+ghost use Rattle.tokens.specs.Cursor.{tokens};
+ghost use Rattle.tokens.specs.Record.{capacity};
+ghost use Rattle.references.specs.Sheet.{viewOf};
+ghost use Rattle.sections.specs.Range.{rangeOf};
+ghost use Rattle.sections.specs.Trigger.{triggerAt};
+ghost use Rattle.sections.specs.Condition.{conditionAt};
+ghost use Rattle.sections.specs.Section.{repeated, whenSection, ifSection, ruleAt};
+ghost use Rattle.reader.specs.Parts.{unrefused, toWhens, toIfs, toRule, ruleEnd, ruleWith};
+
+fn whens_refused(refusal: Refusal) -> Whens
+    ensures { λ r. ⌜ r ≡ toWhens (no refusal) ⌝ }
+{
+    Whens {
+        accepted: false,
+        refusal,
+        next: Cursor::new(),
+        list: parts::no_triggers(),
+    }
+}
+
+fn whens_done(list: Triggers, next: Cursor) -> Whens
+    ensures { λ r. ⌜ r ≡ record { accepted = true; refusal = unrefused; next = next; list = list } ⌝ }
+{
+    Whens {
+        accepted: true,
+        refusal: tokens::cursor::refuse(0, 0),
+        next,
+        list,
+    }
+}
+
+// As many triggers as there are `when`s; a fifth is refused with 37.
+fn whens(c: Cursor, text: &[u8], words: &[u32], s: &[u8], settings: Settings) -> Whens
+    ensures { λ r. ⌜ r ≡ toWhens (repeated (tokens (now (text .entry)) (now (words .entry))) (ascii "when") 37 (triggerAt (tokens (now (text .entry)) (now (words .entry))) (viewOf settings (now (s .entry))) (rangeOf (now (words .entry))) (capacity (now (words .entry)))) 4 (c .index)) ⌝ }
+{
+    let mut list = parts::no_triggers();
+    let mut p = c;
+    loop {
+        let i = p.index;
+        let when = p.accept_kw(text, words, b"when");
+        match when {
+            Accepted::Left => {
+                return whens_done(list, p);
+            }
+            Accepted::Yes(next) => {
+                if list.count == 4 {
+                    return whens_refused(tokens::cursor::refuse(37, i));
+                }
+                let one = trigger::trigger_at(next, text, words, s, settings);
+                match one {
+                    TriggerAnswer::No(refusal) => {
+                        return whens_refused(refusal);
+                    }
+                    TriggerAnswer::Got(x, behind) => {
+                        list = parts::with_trigger(list, x);
+                        p = behind;
+                    }
+                }
+            }
+        }
+    }
+}
+
+// The `when` section: no `when` at all is refused with 38.
+pub fn when_section(c: Cursor, text: &[u8], words: &[u32], s: &[u8], settings: Settings) -> Whens
+    ensures { λ r. ⌜ r ≡ toWhens (whenSection (tokens (now (text .entry)) (now (words .entry))) (viewOf settings (now (s .entry))) (rangeOf (now (words .entry))) (capacity (now (words .entry))) (c .index)) ⌝ }
+{
+    let i = c.index;
+    if c.peek_kw(text, words, b"when") {
+        return whens(c, text, words, s, settings);
+    }
+    whens_refused(tokens::cursor::refuse(38, i))
+}
+
+fn ifs_refused(refusal: Refusal) -> Ifs
+    ensures { λ r. ⌜ r ≡ toIfs (no refusal) ⌝ }
+{
+    Ifs {
+        accepted: false,
+        refusal,
+        next: Cursor::new(),
+        list: parts::no_conditions(),
+    }
+}
+
+fn ifs_done(list: Conditions, next: Cursor) -> Ifs
+    ensures { λ r. ⌜ r ≡ record { accepted = true; refusal = unrefused; next = next; list = list } ⌝ }
+{
+    Ifs {
+        accepted: true,
+        refusal: tokens::cursor::refuse(0, 0),
+        next,
+        list,
+    }
+}
+
+// The first condition, and as many more as there are `and`s; a fifth is refused with 39.
+fn ands(
+    c: Cursor,
+    text: &[u8],
+    words: &[u32],
+    s: &[u8],
+    settings: Settings,
+    first: Condition,
+) -> Ifs
+    ensures { λ r. ⌜ r ≡ toIfs (bind (repeated (tokens (now (text .entry)) (now (words .entry))) (ascii "and") 39 (conditionAt (tokens (now (text .entry)) (now (words .entry))) (viewOf settings (now (s .entry))) (rangeOf (now (words .entry))) (capacity (now (words .entry)))) 3 (c .index)) (λ ys l. ok (first ∷ ys) l)) ⌝ }
+{
+    let mut list = parts::one_condition(first);
+    let mut p = c;
+    loop {
+        let i = p.index;
+        let and = p.accept_kw(text, words, b"and");
+        match and {
+            Accepted::Left => {
+                return ifs_done(list, p);
+            }
+            Accepted::Yes(next) => {
+                if list.count == 4 {
+                    return ifs_refused(tokens::cursor::refuse(39, i));
+                }
+                let one = condition::condition_at(next, text, words, s, settings);
+                match one {
+                    ConditionAnswer::No(refusal) => {
+                        return ifs_refused(refusal);
+                    }
+                    ConditionAnswer::Got(y, behind) => {
+                        list = parts::with_condition(list, y);
+                        p = behind;
+                    }
+                }
+            }
+        }
+    }
+}
+
+// The `if` section, which may be absent.
+pub fn if_section(c: Cursor, text: &[u8], words: &[u32], s: &[u8], settings: Settings) -> Ifs
+    ensures { λ r. ⌜ r ≡ toIfs (ifSection (tokens (now (text .entry)) (now (words .entry))) (viewOf settings (now (s .entry))) (rangeOf (now (words .entry))) (capacity (now (words .entry))) (c .index)) ⌝ }
+{
+    let word = c.accept_kw(text, words, b"if");
+    match word {
+        Accepted::Left => ifs_done(parts::no_conditions(), c),
+        Accepted::Yes(next) => {
+            let one = condition::condition_at(next, text, words, s, settings);
+            match one {
+                ConditionAnswer::No(refusal) => ifs_refused(refusal),
+                ConditionAnswer::Got(y, behind) => ands(behind, text, words, s, settings, y),
+            }
+        }
+    }
+}
+
+fn rule_refused(refusal: Refusal) -> Rule
+    ensures { λ r. ⌜ r ≡ toRule (no refusal) ⌝ }
+{
+    Rule {
+        accepted: false,
+        refusal,
+        triggers: parts::no_triggers(),
+        conditions: parts::no_conditions(),
+    }
+}
+
+// Both lists, if the text is at an end; else 41.
+fn rule_end(
+    c: Cursor,
+    text: &[u8],
+    words: &[u32],
+    triggers: Triggers,
+    conditions: Conditions,
+) -> Rule
+    ensures { λ r. ⌜ r ≡ ruleEnd (tokens (now (text .entry)) (now (words .entry))) triggers conditions (c .index) ⌝ }
+{
+    let i = c.index;
+    if c.peek(words) == 0 {
+        return Rule {
+            accepted: true,
+            refusal: tokens::cursor::refuse(0, 0),
+            triggers,
+            conditions,
+        };
+    }
+    rule_refused(tokens::cursor::refuse(41, i))
+}
+
+// The rule whose triggers are read already.
+fn rule_with(
+    c: Cursor,
+    text: &[u8],
+    words: &[u32],
+    s: &[u8],
+    settings: Settings,
+    triggers: Triggers,
+) -> Rule
+    ensures { λ r. ⌜ r ≡ ruleWith (tokens (now (text .entry)) (now (words .entry))) triggers (ifSection (tokens (now (text .entry)) (now (words .entry))) (viewOf settings (now (s .entry))) (rangeOf (now (words .entry))) (capacity (now (words .entry))) (c .index)) ⌝ }
+{
+    let ifs = if_section(c, text, words, s, settings);
+    if ifs.accepted {
+        return rule_end(ifs.next, text, words, triggers, ifs.list);
+    }
+    rule_refused(ifs.refusal)
+}
+
+// The whole rule.
+pub fn rule(text: &[u8], words: &[u32], s: &[u8], settings: Settings) -> Rule
+    ensures { λ r. ⌜ r ≡ toRule (ruleAt (tokens (now (text .entry)) (now (words .entry))) (viewOf settings (now (s .entry))) (rangeOf (now (words .entry))) (capacity (now (words .entry)))) ⌝ }
+{
+    let whens = when_section(Cursor::new(), text, words, s, settings);
+    if whens.accepted {
+        return rule_with(whens.next, text, words, s, settings, whens.list);
+    }
+    rule_refused(whens.refusal)
+}
