@@ -123,7 +123,9 @@ pub fn comparison_at(c: Cursor, text: &[u8], words: &[u32]) -> ComparisonAnswer
     let kind = c.peek(words);
     let token = c.accept(text, words, kind);
     match token {
-        Accepted::Left => ComparisonAnswer::No(tokens::cursor::refuse(20, i)),
+        Accepted::Left => {
+            return ComparisonAnswer::No(tokens::cursor::refuse(20, i));
+        }
         Accepted::Yes(behind) => {
             if kind == 15 {
                 return ComparisonAnswer::Got(Comparison::Eq, behind);
@@ -143,7 +145,7 @@ pub fn comparison_at(c: Cursor, text: &[u8], words: &[u32]) -> ComparisonAnswer
             if kind == 20 {
                 return ComparisonAnswer::Got(Comparison::Lt, behind);
             }
-            ComparisonAnswer::No(tokens::cursor::refuse(20, i))
+            return ComparisonAnswer::No(tokens::cursor::refuse(20, i));
         }
     }
 }
@@ -154,12 +156,18 @@ fn controller_condition(c: Cursor, text: &[u8], words: &[u32]) -> ConditionAnswe
 {
     let is = c.expect_kw(text, words, b"is");
     match is {
-        Taken::No(refusal) => ConditionAnswer::No(refusal),
+        Taken::No(refusal) => {
+            return ConditionAnswer::No(refusal);
+        }
         Taken::Got(_, next) => {
             let active = next.expect_kw(text, words, b"active");
             match active {
-                Taken::No(refusal) => ConditionAnswer::No(refusal),
-                Taken::Got(_, behind) => ConditionAnswer::Got(Condition::ControllerActive, behind),
+                Taken::No(refusal) => {
+                    return ConditionAnswer::No(refusal);
+                }
+                Taken::Got(_, behind) => {
+                    return ConditionAnswer::Got(Condition::ControllerActive, behind);
+                }
             }
         }
     }
@@ -171,20 +179,26 @@ fn timer_condition(c: Cursor, text: &[u8], words: &[u32]) -> ConditionAnswer
 {
     let name = refs::quoted_name(c, text, words);
     match name {
-        Named::No(refusal) => ConditionAnswer::No(refusal),
+        Named::No(refusal) => {
+            return ConditionAnswer::No(refusal);
+        }
         Named::Got(i, next) => {
             let is = next.expect_kw(text, words, b"is");
             match is {
-                Taken::No(refusal) => ConditionAnswer::No(refusal),
+                Taken::No(refusal) => {
+                    return ConditionAnswer::No(refusal);
+                }
                 Taken::Got(_, further) => {
                     let running = further.expect_kw(text, words, b"running");
                     match running {
-                        Taken::No(refusal) => ConditionAnswer::No(refusal),
+                        Taken::No(refusal) => {
+                            return ConditionAnswer::No(refusal);
+                        }
                         Taken::Got(_, behind) => {
-                            ConditionAnswer::Got(
+                            return ConditionAnswer::Got(
                                 Condition::TimerRunning(name::range(words, i)),
                                 behind,
-                            )
+                            );
                         }
                     }
                 }
@@ -199,20 +213,26 @@ fn rule_condition(c: Cursor, text: &[u8], words: &[u32]) -> ConditionAnswer
 {
     let name = refs::quoted_name(c, text, words);
     match name {
-        Named::No(refusal) => ConditionAnswer::No(refusal),
+        Named::No(refusal) => {
+            return ConditionAnswer::No(refusal);
+        }
         Named::Got(i, next) => {
             let is = next.expect_kw(text, words, b"is");
             match is {
-                Taken::No(refusal) => ConditionAnswer::No(refusal),
+                Taken::No(refusal) => {
+                    return ConditionAnswer::No(refusal);
+                }
                 Taken::Got(_, further) => {
                     let enabled = further.expect_kw(text, words, b"enabled");
                     match enabled {
-                        Taken::No(refusal) => ConditionAnswer::No(refusal),
+                        Taken::No(refusal) => {
+                            return ConditionAnswer::No(refusal);
+                        }
                         Taken::Got(_, behind) => {
-                            ConditionAnswer::Got(
+                            return ConditionAnswer::Got(
                                 Condition::RuleEnabled(name::range(words, i)),
                                 behind,
-                            )
+                            );
                         }
                     }
                 }
@@ -226,17 +246,26 @@ fn older_than(c: Cursor, text: &[u8], words: &[u32], name: Name) -> ConditionAns
 {
     let older = c.expect_kw(text, words, b"older");
     match older {
-        Taken::No(refusal) => ConditionAnswer::No(refusal),
+        Taken::No(refusal) => {
+            return ConditionAnswer::No(refusal);
+        }
         Taken::Got(_, next) => {
             let than = next.expect_kw(text, words, b"than");
             match than {
-                Taken::No(refusal) => ConditionAnswer::No(refusal),
+                Taken::No(refusal) => {
+                    return ConditionAnswer::No(refusal);
+                }
                 Taken::Got(_, further) => {
                     let duration = further.expect(text, words, 5);
                     match duration {
-                        Taken::No(refusal) => ConditionAnswer::No(refusal),
+                        Taken::No(refusal) => {
+                            return ConditionAnswer::No(refusal);
+                        }
                         Taken::Got(ms, behind) => {
-                            ConditionAnswer::Got(Condition::LastFiredOlderThan(name, ms), behind)
+                            return ConditionAnswer::Got(
+                                Condition::LastFiredOlderThan(name, ms),
+                                behind,
+                            );
                         }
                     }
                 }
@@ -251,8 +280,12 @@ fn last_fired_condition(c: Cursor, text: &[u8], words: &[u32]) -> ConditionAnswe
 {
     let name = refs::quoted_name(c, text, words);
     match name {
-        Named::No(refusal) => ConditionAnswer::No(refusal),
-        Named::Got(i, behind) => older_than(behind, text, words, name::range(words, i)),
+        Named::No(refusal) => {
+            return ConditionAnswer::No(refusal);
+        }
+        Named::Got(i, behind) => {
+            return older_than(behind, text, words, name::range(words, i));
+        }
     }
 }
 
@@ -268,17 +301,23 @@ fn device_condition(
 {
     let found = refs::device_ref(c, text, words, s, settings);
     match found {
-        RefAnswer::No(refusal) => ConditionAnswer::No(refusal),
+        RefAnswer::No(refusal) => {
+            return ConditionAnswer::No(refusal);
+        }
         RefAnswer::Got(device, next) => {
             let is = next.expect_kw(text, words, b"is");
             match is {
-                Taken::No(refusal) => ConditionAnswer::No(refusal),
+                Taken::No(refusal) => {
+                    return ConditionAnswer::No(refusal);
+                }
                 Taken::Got(_, further) => {
                     let online = further.expect_kw(text, words, b"online");
                     match online {
-                        Taken::No(refusal) => ConditionAnswer::No(refusal),
+                        Taken::No(refusal) => {
+                            return ConditionAnswer::No(refusal);
+                        }
                         Taken::Got(_, behind) => {
-                            ConditionAnswer::Got(Condition::DeviceOnline(device), behind)
+                            return ConditionAnswer::Got(Condition::DeviceOnline(device), behind);
                         }
                     }
                 }
@@ -293,15 +332,18 @@ fn sun_condition(c: Cursor, text: &[u8], words: &[u32]) -> ConditionAnswer
 {
     let is = c.expect_kw(text, words, b"is");
     match is {
-        Taken::No(refusal) => ConditionAnswer::No(refusal),
+        Taken::No(refusal) => {
+            return ConditionAnswer::No(refusal);
+        }
         Taken::Got(_, next) => {
             let state = words::pair(next, text, words, b"up", b"down");
             match state {
-                PairAnswer::No(refusal) => ConditionAnswer::No(refusal),
-                PairAnswer::Got(up, behind) => ConditionAnswer::Got(
-                    Condition::SunIs(sun_is(up)),
-                    behind,
-                ),
+                PairAnswer::No(refusal) => {
+                    return ConditionAnswer::No(refusal);
+                }
+                PairAnswer::Got(up, behind) => {
+                    return ConditionAnswer::Got(Condition::SunIs(sun_is(up)), behind);
+                }
             }
         }
     }
@@ -312,13 +354,17 @@ fn time_to(c: Cursor, text: &[u8], words: &[u32], start: TimeBound) -> Condition
 {
     let points = c.expect(text, words, 13);
     match points {
-        Taken::No(refusal) => ConditionAnswer::No(refusal),
+        Taken::No(refusal) => {
+            return ConditionAnswer::No(refusal);
+        }
         Taken::Got(_, next) => {
             let bound = timeval::time_bound(next, text, words);
             match bound {
-                BoundAnswer::No(refusal) => ConditionAnswer::No(refusal),
+                BoundAnswer::No(refusal) => {
+                    return ConditionAnswer::No(refusal);
+                }
                 BoundAnswer::Got(end, behind) => {
-                    ConditionAnswer::Got(Condition::TimeInRange(start, end), behind)
+                    return ConditionAnswer::Got(Condition::TimeInRange(start, end), behind);
                 }
             }
         }
@@ -331,12 +377,18 @@ fn time_condition(c: Cursor, text: &[u8], words: &[u32]) -> ConditionAnswer
 {
     let within = c.expect_kw(text, words, b"in");
     match within {
-        Taken::No(refusal) => ConditionAnswer::No(refusal),
+        Taken::No(refusal) => {
+            return ConditionAnswer::No(refusal);
+        }
         Taken::Got(_, next) => {
             let bound = timeval::time_bound(next, text, words);
             match bound {
-                BoundAnswer::No(refusal) => ConditionAnswer::No(refusal),
-                BoundAnswer::Got(start, behind) => time_to(behind, text, words, start),
+                BoundAnswer::No(refusal) => {
+                    return ConditionAnswer::No(refusal);
+                }
+                BoundAnswer::Got(start, behind) => {
+                    return time_to(behind, text, words, start);
+                }
             }
         }
     }
@@ -354,16 +406,20 @@ fn group_condition(
 {
     let found = refs::group_ref(c, text, words, s, settings);
     match found {
-        RefAnswer::No(refusal) => ConditionAnswer::No(refusal),
+        RefAnswer::No(refusal) => {
+            return ConditionAnswer::No(refusal);
+        }
         RefAnswer::Got(group, next) => {
             let state = words::pair(next, text, words, b"any_on", b"all_off");
             match state {
-                PairAnswer::No(refusal) => ConditionAnswer::No(refusal),
+                PairAnswer::No(refusal) => {
+                    return ConditionAnswer::No(refusal);
+                }
                 PairAnswer::Got(any, behind) => {
-                    ConditionAnswer::Got(
+                    return ConditionAnswer::Got(
                         Condition::GroupState(group, trigger::aggregate_by(any)),
                         behind,
-                    )
+                    );
                 }
             }
         }
@@ -382,13 +438,20 @@ fn hcl_for(
 {
     let word = c.expect_kw(text, words, b"for");
     match word {
-        Taken::No(refusal) => ConditionAnswer::No(refusal),
+        Taken::No(refusal) => {
+            return ConditionAnswer::No(refusal);
+        }
         Taken::Got(_, next) => {
             let found = refs::light_target(next, text, words, s, settings);
             match found {
-                TargetAnswer::No(refusal) => ConditionAnswer::No(refusal),
+                TargetAnswer::No(refusal) => {
+                    return ConditionAnswer::No(refusal);
+                }
                 TargetAnswer::Got(target, behind) => {
-                    ConditionAnswer::Got(Condition::HclState(target, hcl_is(enabled)), behind)
+                    return ConditionAnswer::Got(
+                        Condition::HclState(target, hcl_is(enabled)),
+                        behind,
+                    );
                 }
             }
         }
@@ -407,19 +470,18 @@ fn hcl_condition(
 {
     let is = c.expect_kw(text, words, b"is");
     match is {
-        Taken::No(refusal) => ConditionAnswer::No(refusal),
+        Taken::No(refusal) => {
+            return ConditionAnswer::No(refusal);
+        }
         Taken::Got(_, next) => {
             let state = words::pair(next, text, words, b"enabled", b"overridden");
             match state {
-                PairAnswer::No(refusal) => ConditionAnswer::No(refusal),
-                PairAnswer::Got(enabled, behind) => hcl_for(
-                    behind,
-                    text,
-                    words,
-                    s,
-                    settings,
-                    enabled,
-                ),
+                PairAnswer::No(refusal) => {
+                    return ConditionAnswer::No(refusal);
+                }
+                PairAnswer::Got(enabled, behind) => {
+                    return hcl_for(behind, text, words, s, settings, enabled);
+                }
             }
         }
     }
@@ -460,13 +522,17 @@ fn lamp_compared(
 {
     let sign = comparison_at(c, text, words);
     match sign {
-        ComparisonAnswer::No(refusal) => ConditionAnswer::No(refusal),
+        ComparisonAnswer::No(refusal) => {
+            return ConditionAnswer::No(refusal);
+        }
         ComparisonAnswer::Got(comparison, next) => {
             let right = expr::value_expr(next, text, words, s, settings);
             match right {
-                ValueAnswer::No(refusal) => ConditionAnswer::No(refusal),
+                ValueAnswer::No(refusal) => {
+                    return ConditionAnswer::No(refusal);
+                }
                 ValueAnswer::Got(value, behind) => {
-                    lamp_judged(behind, text, words, lamp, p, comparison, value)
+                    return lamp_judged(behind, text, words, lamp, p, comparison, value);
                 }
             }
         }
@@ -485,8 +551,12 @@ fn lamp_point(
 {
     let property = words::property_word(c, text, words);
     match property {
-        Named::No(refusal) => ConditionAnswer::No(refusal),
-        Named::Got(p, behind) => lamp_compared(behind, text, words, s, settings, lamp, p),
+        Named::No(refusal) => {
+            return ConditionAnswer::No(refusal);
+        }
+        Named::Got(p, behind) => {
+            return lamp_compared(behind, text, words, s, settings, lamp, p);
+        }
     }
 }
 
@@ -502,13 +572,20 @@ fn lamp_state(
 {
     let is = c.accept_kw(text, words, b"is");
     match is {
-        Accepted::Left => lamp_point(c, text, words, s, settings, lamp),
+        Accepted::Left => {
+            return lamp_point(c, text, words, s, settings, lamp);
+        }
         Accepted::Yes(next) => {
             let state = words::pair(next, text, words, b"on", b"off");
             match state {
-                PairAnswer::No(refusal) => ConditionAnswer::No(refusal),
+                PairAnswer::No(refusal) => {
+                    return ConditionAnswer::No(refusal);
+                }
                 PairAnswer::Got(on, behind) => {
-                    ConditionAnswer::Got(Condition::LampIs(lamp, trigger::power_by(on)), behind)
+                    return ConditionAnswer::Got(
+                        Condition::LampIs(lamp, trigger::power_by(on)),
+                        behind,
+                    );
                 }
             }
         }
@@ -527,8 +604,12 @@ fn lamp_condition(
 {
     let found = refs::lamp_ref(c, text, words, s, settings);
     match found {
-        RefAnswer::No(refusal) => ConditionAnswer::No(refusal),
-        RefAnswer::Got(lamp, behind) => lamp_state(behind, text, words, s, settings, lamp),
+        RefAnswer::No(refusal) => {
+            return ConditionAnswer::No(refusal);
+        }
+        RefAnswer::Got(lamp, behind) => {
+            return lamp_state(behind, text, words, s, settings, lamp);
+        }
     }
 }
 
@@ -544,16 +625,20 @@ fn light_than(
 {
     let side = words::pair(c, text, words, b"above", b"below");
     match side {
-        PairAnswer::No(refusal) => ConditionAnswer::No(refusal),
+        PairAnswer::No(refusal) => {
+            return ConditionAnswer::No(refusal);
+        }
         PairAnswer::Got(above, next) => {
             let right = expr::value_expr(next, text, words, s, settings);
             match right {
-                ValueAnswer::No(refusal) => ConditionAnswer::No(refusal),
+                ValueAnswer::No(refusal) => {
+                    return ConditionAnswer::No(refusal);
+                }
                 ValueAnswer::Got(value, behind) => {
-                    ConditionAnswer::Got(
+                    return ConditionAnswer::Got(
                         Condition::InputLight(input, trigger::crossing_by(above), value),
                         behind,
-                    )
+                    );
                 }
             }
         }
@@ -572,12 +657,18 @@ fn light_condition(
 {
     let point = c.expect(text, words, 12);
     match point {
-        Taken::No(refusal) => ConditionAnswer::No(refusal),
+        Taken::No(refusal) => {
+            return ConditionAnswer::No(refusal);
+        }
         Taken::Got(_, next) => {
             let light = next.expect_kw(text, words, b"light");
             match light {
-                Taken::No(refusal) => ConditionAnswer::No(refusal),
-                Taken::Got(_, behind) => light_than(behind, text, words, s, settings, input),
+                Taken::No(refusal) => {
+                    return ConditionAnswer::No(refusal);
+                }
+                Taken::Got(_, behind) => {
+                    return light_than(behind, text, words, s, settings, input);
+                }
             }
         }
     }
@@ -595,16 +686,20 @@ fn input_state(
 {
     let is = c.accept_kw(text, words, b"is");
     match is {
-        Accepted::Left => light_condition(c, text, words, s, settings, input),
+        Accepted::Left => {
+            return light_condition(c, text, words, s, settings, input);
+        }
         Accepted::Yes(next) => {
             let state = words::pair(next, text, words, b"occupied", b"vacant");
             match state {
-                PairAnswer::No(refusal) => ConditionAnswer::No(refusal),
+                PairAnswer::No(refusal) => {
+                    return ConditionAnswer::No(refusal);
+                }
                 PairAnswer::Got(occupied, behind) => {
-                    ConditionAnswer::Got(
+                    return ConditionAnswer::Got(
                         Condition::InputOccupancy(input, trigger::occupancy_by(occupied)),
                         behind,
-                    )
+                    );
                 }
             }
         }
@@ -623,8 +718,12 @@ fn input_condition(
 {
     let found = args::input_ref(c, text, words, s, settings);
     match found {
-        InputAnswer::No(refusal) => ConditionAnswer::No(refusal),
-        InputAnswer::Got(input, behind) => input_state(behind, text, words, s, settings, input),
+        InputAnswer::No(refusal) => {
+            return ConditionAnswer::No(refusal);
+        }
+        InputAnswer::Got(input, behind) => {
+            return input_state(behind, text, words, s, settings, input);
+        }
     }
 }
 
@@ -635,13 +734,15 @@ fn text_operand(c: Cursor, text: &[u8], words: &[u32]) -> OperandAnswer
     let i = c.index;
     let string = c.expect_string(text, words);
     match string {
-        Taken::No(refusal) => OperandAnswer::No(refusal),
+        Taken::No(refusal) => {
+            return OperandAnswer::No(refusal);
+        }
         Taken::Got(_, behind) => {
             let bytes = tokens::record::bytes(text, words, i);
             if 16 < bytes.len() {
                 return OperandAnswer::No(tokens::cursor::refuse(24, i));
             }
-            OperandAnswer::Got(Operand::Text(name::range(words, i)), behind)
+            return OperandAnswer::Got(Operand::Text(name::range(words, i)), behind);
         }
     }
 }
@@ -655,8 +756,12 @@ fn var_operand(c: Cursor, text: &[u8], words: &[u32], s: &[u8], settings: Settin
     }
     let right = expr::value_expr(c, text, words, s, settings);
     match right {
-        ValueAnswer::No(refusal) => OperandAnswer::No(refusal),
-        ValueAnswer::Got(value, behind) => OperandAnswer::Got(Operand::Number(value), behind),
+        ValueAnswer::No(refusal) => {
+            return OperandAnswer::No(refusal);
+        }
+        ValueAnswer::Got(value, behind) => {
+            return OperandAnswer::Got(Operand::Number(value), behind);
+        }
     }
 }
 
@@ -672,13 +777,20 @@ fn var_compared(
 {
     let sign = comparison_at(c, text, words);
     match sign {
-        ComparisonAnswer::No(refusal) => ConditionAnswer::No(refusal),
+        ComparisonAnswer::No(refusal) => {
+            return ConditionAnswer::No(refusal);
+        }
         ComparisonAnswer::Got(comparison, next) => {
             let right = var_operand(next, text, words, s, settings);
             match right {
-                OperandAnswer::No(refusal) => ConditionAnswer::No(refusal),
+                OperandAnswer::No(refusal) => {
+                    return ConditionAnswer::No(refusal);
+                }
                 OperandAnswer::Got(operand, behind) => {
-                    ConditionAnswer::Got(Condition::VarCompare(name, comparison, operand), behind)
+                    return ConditionAnswer::Got(
+                        Condition::VarCompare(name, comparison, operand),
+                        behind,
+                    );
                 }
             }
         }
@@ -697,15 +809,12 @@ fn var_condition(
 {
     let name = refs::quoted_name(c, text, words);
     match name {
-        Named::No(refusal) => ConditionAnswer::No(refusal),
-        Named::Got(i, behind) => var_compared(
-            behind,
-            text,
-            words,
-            s,
-            settings,
-            name::range(words, i),
-        ),
+        Named::No(refusal) => {
+            return ConditionAnswer::No(refusal);
+        }
+        Named::Got(i, behind) => {
+            return var_compared(behind, text, words, s, settings, name::range(words, i));
+        }
     }
 }
 
@@ -803,10 +912,12 @@ pub fn condition_at(
     let i = c.index;
     let word = c.expect(text, words, 1);
     match word {
-        Taken::No(refusal) => ConditionAnswer::No(refusal),
+        Taken::No(refusal) => {
+            return ConditionAnswer::No(refusal);
+        }
         Taken::Got(_, behind) => {
             let w = tokens::record::bytes(text, words, i);
-            condition_by(i, behind, w, text, words, s, settings)
+            return condition_by(i, behind, w, text, words, s, settings);
         }
     }
 }

@@ -176,13 +176,17 @@ fn timer_trigger(c: Cursor, text: &[u8], words: &[u32]) -> TriggerAnswer
 {
     let name = refs::quoted_name(c, text, words);
     match name {
-        Named::No(refusal) => TriggerAnswer::No(refusal),
+        Named::No(refusal) => {
+            return TriggerAnswer::No(refusal);
+        }
         Named::Got(i, next) => {
             let word = next.expect_kw(text, words, b"fires");
             match word {
-                Taken::No(refusal) => TriggerAnswer::No(refusal),
+                Taken::No(refusal) => {
+                    return TriggerAnswer::No(refusal);
+                }
                 Taken::Got(_, behind) => {
-                    TriggerAnswer::Got(Trigger::TimerFires(name::range(words, i)), behind)
+                    return TriggerAnswer::Got(Trigger::TimerFires(name::range(words, i)), behind);
                 }
             }
         }
@@ -194,13 +198,17 @@ fn rule_trigger(c: Cursor, text: &[u8], words: &[u32]) -> TriggerAnswer
 {
     let name = refs::quoted_name(c, text, words);
     match name {
-        Named::No(refusal) => TriggerAnswer::No(refusal),
+        Named::No(refusal) => {
+            return TriggerAnswer::No(refusal);
+        }
         Named::Got(i, next) => {
             let word = next.expect_kw(text, words, b"fails");
             match word {
-                Taken::No(refusal) => TriggerAnswer::No(refusal),
+                Taken::No(refusal) => {
+                    return TriggerAnswer::No(refusal);
+                }
                 Taken::Got(_, behind) => {
-                    TriggerAnswer::Got(Trigger::RuleFails(name::range(words, i)), behind)
+                    return TriggerAnswer::Got(Trigger::RuleFails(name::range(words, i)), behind);
                 }
             }
         }
@@ -216,15 +224,18 @@ fn controller_trigger(c: Cursor, text: &[u8], words: &[u32]) -> TriggerAnswer
     }
     let first = c.expect_kw(text, words, b"becomes");
     match first {
-        Taken::No(refusal) => TriggerAnswer::No(refusal),
+        Taken::No(refusal) => {
+            return TriggerAnswer::No(refusal);
+        }
         Taken::Got(_, next) => {
             let second = next.expect_kw(text, words, b"active");
             match second {
-                Taken::No(refusal) => TriggerAnswer::No(refusal),
-                Taken::Got(_, behind) => TriggerAnswer::Got(
-                    Trigger::ControllerBecomesActive,
-                    behind,
-                ),
+                Taken::No(refusal) => {
+                    return TriggerAnswer::No(refusal);
+                }
+                Taken::Got(_, behind) => {
+                    return TriggerAnswer::Got(Trigger::ControllerBecomesActive, behind);
+                }
             }
         }
     }
@@ -235,8 +246,12 @@ fn http_trigger(c: Cursor, text: &[u8], words: &[u32]) -> TriggerAnswer
 {
     let word = c.expect_kw(text, words, b"trigger");
     match word {
-        Taken::No(refusal) => TriggerAnswer::No(refusal),
-        Taken::Got(_, behind) => TriggerAnswer::Got(Trigger::HttpTrigger, behind),
+        Taken::No(refusal) => {
+            return TriggerAnswer::No(refusal);
+        }
+        Taken::Got(_, behind) => {
+            return TriggerAnswer::Got(Trigger::HttpTrigger, behind);
+        }
     }
 }
 
@@ -247,12 +262,14 @@ fn every_trigger(c: Cursor, text: &[u8], words: &[u32]) -> TriggerAnswer
     let i = c.index;
     let period = c.expect_duration(text, words);
     match period {
-        Taken::No(refusal) => TriggerAnswer::No(refusal),
+        Taken::No(refusal) => {
+            return TriggerAnswer::No(refusal);
+        }
         Taken::Got(ms, behind) => {
             if ms < 1000 {
                 return TriggerAnswer::No(tokens::cursor::refuse(35, i));
             }
-            TriggerAnswer::Got(Trigger::Every(ms), behind)
+            return TriggerAnswer::Got(Trigger::Every(ms), behind);
         }
     }
 }
@@ -266,9 +283,11 @@ fn at_bound(c: Cursor, text: &[u8], words: &[u32], bound: TimeBound) -> TriggerA
             if c.peek_kw(text, words, b"on") {
                 return TriggerAnswer::No(tokens::cursor::refuse(40, c.index));
             }
-            TriggerAnswer::Got(Trigger::AtTime(m), c)
+            return TriggerAnswer::Got(Trigger::AtTime(m), c);
         }
-        TimeBound::Solar(event, offset) => TriggerAnswer::Got(Trigger::AtSolar(event, offset), c),
+        TimeBound::Solar(event, offset) => {
+            return TriggerAnswer::Got(Trigger::AtSolar(event, offset), c);
+        }
     }
 }
 
@@ -277,8 +296,12 @@ fn at_trigger(c: Cursor, text: &[u8], words: &[u32]) -> TriggerAnswer
 {
     let bound = timeval::time_bound(c, text, words);
     match bound {
-        BoundAnswer::No(refusal) => TriggerAnswer::No(refusal),
-        BoundAnswer::Got(bound, behind) => at_bound(behind, text, words, bound),
+        BoundAnswer::No(refusal) => {
+            return TriggerAnswer::No(refusal);
+        }
+        BoundAnswer::Got(bound, behind) => {
+            return at_bound(behind, text, words, bound);
+        }
     }
 }
 
@@ -295,18 +318,27 @@ fn scene_closed(
 {
     let clause = refs::adapter_clause(c, text, words, s, settings);
     match clause {
-        ScopeAnswer::No(refusal) => TriggerAnswer::No(refusal),
+        ScopeAnswer::No(refusal) => {
+            return TriggerAnswer::No(refusal);
+        }
         ScopeAnswer::Got(scope, next) => {
             let close = next.expect(text, words, 8);
             match close {
-                Taken::No(refusal) => TriggerAnswer::No(refusal),
+                Taken::No(refusal) => {
+                    return TriggerAnswer::No(refusal);
+                }
                 Taken::Got(_, closed) => {
                     let word = closed.expect_kw(text, words, b"recalled");
                     match word {
-                        Taken::No(refusal) => TriggerAnswer::No(refusal),
+                        Taken::No(refusal) => {
+                            return TriggerAnswer::No(refusal);
+                        }
                         Taken::Got(_, behind) => {
                             let adapter = refs::adapter_or(settings, scope, s);
-                            TriggerAnswer::Got(Trigger::SceneRecalled(adapter, scene), behind)
+                            return TriggerAnswer::Got(
+                                Trigger::SceneRecalled(adapter, scene),
+                                behind,
+                            );
                         }
                     }
                 }
@@ -326,12 +358,18 @@ fn scene_trigger(
 {
     let open = c.expect(text, words, 7);
     match open {
-        Taken::No(refusal) => TriggerAnswer::No(refusal),
+        Taken::No(refusal) => {
+            return TriggerAnswer::No(refusal);
+        }
         Taken::Got(_, next) => {
             let scene = next.expect_int_in(text, words, 0, 15);
             match scene {
-                Taken::No(refusal) => TriggerAnswer::No(refusal),
-                Taken::Got(n, behind) => scene_closed(behind, text, words, s, settings, n),
+                Taken::No(refusal) => {
+                    return TriggerAnswer::No(refusal);
+                }
+                Taken::Got(n, behind) => {
+                    return scene_closed(behind, text, words, s, settings, n);
+                }
             }
         }
     }
@@ -343,24 +381,35 @@ fn device_change(c: Cursor, text: &[u8], words: &[u32], device: Ref) -> TriggerA
     let goes = c.accept_kw(text, words, b"goes");
     if let Accepted::Yes(next) = goes {
         let word = next.expect_kw(text, words, b"offline");
-        return match word {
-            Taken::No(refusal) => TriggerAnswer::No(refusal),
-            Taken::Got(_, behind) => {
-                TriggerAnswer::Got(Trigger::DeviceOnline(device, Online::GoesOffline), behind)
+        match word {
+            Taken::No(refusal) => {
+                return TriggerAnswer::No(refusal);
             }
-        };
+            Taken::Got(_, behind) => {
+                return TriggerAnswer::Got(
+                    Trigger::DeviceOnline(device, Online::GoesOffline),
+                    behind,
+                );
+            }
+        }
     }
     let first = c.expect_kw(text, words, b"comes");
     match first {
-        Taken::No(refusal) => TriggerAnswer::No(refusal),
+        Taken::No(refusal) => {
+            return TriggerAnswer::No(refusal);
+        }
         Taken::Got(_, next) => {
             let second = next.expect_kw(text, words, b"online");
             match second {
-                Taken::No(refusal) => TriggerAnswer::No(refusal),
-                Taken::Got(_, behind) => TriggerAnswer::Got(
-                    Trigger::DeviceOnline(device, Online::ComesOnline),
-                    behind,
-                ),
+                Taken::No(refusal) => {
+                    return TriggerAnswer::No(refusal);
+                }
+                Taken::Got(_, behind) => {
+                    return TriggerAnswer::Got(
+                        Trigger::DeviceOnline(device, Online::ComesOnline),
+                        behind,
+                    );
+                }
             }
         }
     }
@@ -377,8 +426,12 @@ fn device_trigger(
 {
     let target = refs::device_ref(c, text, words, s, settings);
     match target {
-        RefAnswer::No(refusal) => TriggerAnswer::No(refusal),
-        RefAnswer::Got(device, behind) => device_change(behind, text, words, device),
+        RefAnswer::No(refusal) => {
+            return TriggerAnswer::No(refusal);
+        }
+        RefAnswer::Got(device, behind) => {
+            return device_change(behind, text, words, device);
+        }
     }
 }
 
@@ -387,13 +440,20 @@ fn group_change(c: Cursor, text: &[u8], words: &[u32], group: Ref) -> TriggerAns
 {
     let word = c.expect_kw(text, words, b"becomes");
     match word {
-        Taken::No(refusal) => TriggerAnswer::No(refusal),
+        Taken::No(refusal) => {
+            return TriggerAnswer::No(refusal);
+        }
         Taken::Got(_, next) => {
             let state = words::pair(next, text, words, b"any_on", b"all_off");
             match state {
-                PairAnswer::No(refusal) => TriggerAnswer::No(refusal),
+                PairAnswer::No(refusal) => {
+                    return TriggerAnswer::No(refusal);
+                }
                 PairAnswer::Got(any, behind) => {
-                    TriggerAnswer::Got(Trigger::GroupBecomes(group, aggregate_by(any)), behind)
+                    return TriggerAnswer::Got(
+                        Trigger::GroupBecomes(group, aggregate_by(any)),
+                        behind,
+                    );
                 }
             }
         }
@@ -411,8 +471,12 @@ fn group_trigger(
 {
     let target = refs::group_ref(c, text, words, s, settings);
     match target {
-        RefAnswer::No(refusal) => TriggerAnswer::No(refusal),
-        RefAnswer::Got(group, behind) => group_change(behind, text, words, group),
+        RefAnswer::No(refusal) => {
+            return TriggerAnswer::No(refusal);
+        }
+        RefAnswer::Got(group, behind) => {
+            return group_change(behind, text, words, group);
+        }
     }
 }
 
@@ -428,13 +492,20 @@ fn override_for(
 {
     let word = c.expect_kw(text, words, b"for");
     match word {
-        Taken::No(refusal) => TriggerAnswer::No(refusal),
+        Taken::No(refusal) => {
+            return TriggerAnswer::No(refusal);
+        }
         Taken::Got(_, next) => {
             let target = refs::light_target(next, text, words, s, settings);
             match target {
-                TargetAnswer::No(refusal) => TriggerAnswer::No(refusal),
+                TargetAnswer::No(refusal) => {
+                    return TriggerAnswer::No(refusal);
+                }
                 TargetAnswer::Got(light, behind) => {
-                    TriggerAnswer::Got(Trigger::HclOverride(light, override_by(starts)), behind)
+                    return TriggerAnswer::Got(
+                        Trigger::HclOverride(light, override_by(starts)),
+                        behind,
+                    );
                 }
             }
         }
@@ -446,13 +517,17 @@ fn hcl_trigger(c: Cursor, text: &[u8], words: &[u32], s: &[u8], settings: Settin
 {
     let word = c.expect_kw(text, words, b"override");
     match word {
-        Taken::No(refusal) => TriggerAnswer::No(refusal),
+        Taken::No(refusal) => {
+            return TriggerAnswer::No(refusal);
+        }
         Taken::Got(_, next) => {
             let change = words::pair(next, text, words, b"starts", b"clears");
             match change {
-                PairAnswer::No(refusal) => TriggerAnswer::No(refusal),
+                PairAnswer::No(refusal) => {
+                    return TriggerAnswer::No(refusal);
+                }
                 PairAnswer::Got(starts, behind) => {
-                    override_for(behind, text, words, s, settings, starts)
+                    return override_for(behind, text, words, s, settings, starts);
                 }
             }
         }
@@ -464,13 +539,20 @@ fn level_cross(c: Cursor, text: &[u8], words: &[u32], lamp: Ref) -> TriggerAnswe
 {
     let direction = words::pair(c, text, words, b"above", b"below");
     match direction {
-        PairAnswer::No(refusal) => TriggerAnswer::No(refusal),
+        PairAnswer::No(refusal) => {
+            return TriggerAnswer::No(refusal);
+        }
         PairAnswer::Got(above, next) => {
             let threshold = next.expect_int_in(text, words, 0, 254);
             match threshold {
-                Taken::No(refusal) => TriggerAnswer::No(refusal),
+                Taken::No(refusal) => {
+                    return TriggerAnswer::No(refusal);
+                }
                 Taken::Got(n, behind) => {
-                    TriggerAnswer::Got(Trigger::LampLevelCross(lamp, crossing_by(above), n), behind)
+                    return TriggerAnswer::Got(
+                        Trigger::LampLevelCross(lamp, crossing_by(above), n),
+                        behind,
+                    );
                 }
             }
         }
@@ -482,16 +564,24 @@ fn lamp_level(c: Cursor, text: &[u8], words: &[u32], lamp: Ref) -> TriggerAnswer
 {
     let point = c.expect(text, words, 12);
     match point {
-        Taken::No(refusal) => TriggerAnswer::No(refusal),
+        Taken::No(refusal) => {
+            return TriggerAnswer::No(refusal);
+        }
         Taken::Got(_, pointed) => {
             let level = pointed.expect_kw(text, words, b"level");
             match level {
-                Taken::No(refusal) => TriggerAnswer::No(refusal),
+                Taken::No(refusal) => {
+                    return TriggerAnswer::No(refusal);
+                }
                 Taken::Got(_, next) => {
                     let crosses = next.expect_kw(text, words, b"crosses");
                     match crosses {
-                        Taken::No(refusal) => TriggerAnswer::No(refusal),
-                        Taken::Got(_, behind) => level_cross(behind, text, words, lamp),
+                        Taken::No(refusal) => {
+                            return TriggerAnswer::No(refusal);
+                        }
+                        Taken::Got(_, behind) => {
+                            return level_cross(behind, text, words, lamp);
+                        }
                     }
                 }
             }
@@ -505,12 +595,14 @@ fn lamp_change(c: Cursor, text: &[u8], words: &[u32], lamp: Ref) -> TriggerAnswe
     let turns = c.accept_kw(text, words, b"turns");
     if let Accepted::Yes(next) = turns {
         let state = words::pair(next, text, words, b"on", b"off");
-        return match state {
-            PairAnswer::No(refusal) => TriggerAnswer::No(refusal),
-            PairAnswer::Got(on, behind) => {
-                TriggerAnswer::Got(Trigger::LampTurns(lamp, power_by(on)), behind)
+        match state {
+            PairAnswer::No(refusal) => {
+                return TriggerAnswer::No(refusal);
             }
-        };
+            PairAnswer::Got(on, behind) => {
+                return TriggerAnswer::Got(Trigger::LampTurns(lamp, power_by(on)), behind);
+            }
+        }
     }
     lamp_level(c, text, words, lamp)
 }
@@ -526,8 +618,12 @@ fn lamp_trigger(
 {
     let target = refs::lamp_ref(c, text, words, s, settings);
     match target {
-        RefAnswer::No(refusal) => TriggerAnswer::No(refusal),
-        RefAnswer::Got(lamp, behind) => lamp_change(behind, text, words, lamp),
+        RefAnswer::No(refusal) => {
+            return TriggerAnswer::No(refusal);
+        }
+        RefAnswer::Got(lamp, behind) => {
+            return lamp_change(behind, text, words, lamp);
+        }
     }
 }
 
@@ -536,19 +632,27 @@ fn manual_config(c: Cursor, text: &[u8], words: &[u32], device: Ref) -> TriggerA
 {
     let manual = c.expect_kw(text, words, b"manual");
     match manual {
-        Taken::No(refusal) => TriggerAnswer::No(refusal),
+        Taken::No(refusal) => {
+            return TriggerAnswer::No(refusal);
+        }
         Taken::Got(_, first) => {
             let config = first.expect_kw(text, words, b"config");
             match config {
-                Taken::No(refusal) => TriggerAnswer::No(refusal),
+                Taken::No(refusal) => {
+                    return TriggerAnswer::No(refusal);
+                }
                 Taken::Got(_, next) => {
                     let changed = next.expect_kw(text, words, b"changed");
                     match changed {
-                        Taken::No(refusal) => TriggerAnswer::No(refusal),
-                        Taken::Got(_, behind) => TriggerAnswer::Got(
-                            Trigger::InputDeviceManualConfigChanged(device),
-                            behind,
-                        ),
+                        Taken::No(refusal) => {
+                            return TriggerAnswer::No(refusal);
+                        }
+                        Taken::Got(_, behind) => {
+                            return TriggerAnswer::Got(
+                                Trigger::InputDeviceManualConfigChanged(device),
+                                behind,
+                            );
+                        }
                     }
                 }
             }
@@ -562,12 +666,14 @@ fn input_device_change(c: Cursor, text: &[u8], words: &[u32], device: Ref) -> Tr
     let power = c.accept_kw(text, words, b"power");
     if let Accepted::Yes(next) = power {
         let cycled = next.expect_kw(text, words, b"cycled");
-        return match cycled {
-            Taken::No(refusal) => TriggerAnswer::No(refusal),
-            Taken::Got(_, behind) => {
-                TriggerAnswer::Got(Trigger::InputDevicePowerCycled(device), behind)
+        match cycled {
+            Taken::No(refusal) => {
+                return TriggerAnswer::No(refusal);
             }
-        };
+            Taken::Got(_, behind) => {
+                return TriggerAnswer::Got(Trigger::InputDevicePowerCycled(device), behind);
+            }
+        }
     }
     manual_config(c, text, words, device)
 }
@@ -583,8 +689,12 @@ fn input_device_trigger(
 {
     let target = refs::input_device_ref(c, text, words, s, settings);
     match target {
-        RefAnswer::No(refusal) => TriggerAnswer::No(refusal),
-        RefAnswer::Got(device, behind) => input_device_change(behind, text, words, device),
+        RefAnswer::No(refusal) => {
+            return TriggerAnswer::No(refusal);
+        }
+        RefAnswer::Got(device, behind) => {
+            return input_device_change(behind, text, words, device);
+        }
     }
 }
 
@@ -593,12 +703,18 @@ fn raw_data(c: Cursor, text: &[u8], words: &[u32]) -> EventAnswer
 {
     let data = c.expect_int_in(text, words, 0, 1023);
     match data {
-        Taken::No(refusal) => EventAnswer::No(refusal),
+        Taken::No(refusal) => {
+            return EventAnswer::No(refusal);
+        }
         Taken::Got(n, next) => {
             let close = next.expect(text, words, 8);
             match close {
-                Taken::No(refusal) => EventAnswer::No(refusal),
-                Taken::Got(_, behind) => EventAnswer::Got(Event::Raw(n), behind),
+                Taken::No(refusal) => {
+                    return EventAnswer::No(refusal);
+                }
+                Taken::Got(_, behind) => {
+                    return EventAnswer::Got(Event::Raw(n), behind);
+                }
             }
         }
     }
@@ -609,16 +725,24 @@ fn raw_event(c: Cursor, text: &[u8], words: &[u32]) -> EventAnswer
 {
     let open = c.expect(text, words, 7);
     match open {
-        Taken::No(refusal) => EventAnswer::No(refusal),
+        Taken::No(refusal) => {
+            return EventAnswer::No(refusal);
+        }
         Taken::Got(_, opened) => {
             let data = opened.expect_kw(text, words, b"data");
             match data {
-                Taken::No(refusal) => EventAnswer::No(refusal),
+                Taken::No(refusal) => {
+                    return EventAnswer::No(refusal);
+                }
                 Taken::Got(_, next) => {
                     let assign = next.expect(text, words, 14);
                     match assign {
-                        Taken::No(refusal) => EventAnswer::No(refusal),
-                        Taken::Got(_, behind) => raw_data(behind, text, words),
+                        Taken::No(refusal) => {
+                            return EventAnswer::No(refusal);
+                        }
+                        Taken::Got(_, behind) => {
+                            return raw_data(behind, text, words);
+                        }
                     }
                 }
             }
@@ -686,8 +810,12 @@ pub fn event_match(c: Cursor, text: &[u8], words: &[u32]) -> EventAnswer
     }
     let word = c.expect_ident(text, words);
     match word {
-        Taken::No(refusal) => EventAnswer::No(refusal),
-        Taken::Got(_, behind) => event_by(i, behind, tokens::record::bytes(text, words, i)),
+        Taken::No(refusal) => {
+            return EventAnswer::No(refusal);
+        }
+        Taken::Got(_, behind) => {
+            return event_by(i, behind, tokens::record::bytes(text, words, i));
+        }
     }
 }
 
@@ -696,9 +824,11 @@ fn input_event(c: Cursor, text: &[u8], words: &[u32], selector: Selector) -> Tri
 {
     let event = event_match(c, text, words);
     match event {
-        EventAnswer::No(refusal) => TriggerAnswer::No(refusal),
+        EventAnswer::No(refusal) => {
+            return TriggerAnswer::No(refusal);
+        }
         EventAnswer::Got(event, behind) => {
-            TriggerAnswer::Got(Trigger::InputEvent(selector, event), behind)
+            return TriggerAnswer::Got(Trigger::InputEvent(selector, event), behind);
         }
     }
 }
@@ -715,16 +845,20 @@ fn input_becomes(
 {
     let input = args::one_instance(paren, c, selector);
     match input {
-        InputAnswer::No(refusal) => TriggerAnswer::No(refusal),
+        InputAnswer::No(refusal) => {
+            return TriggerAnswer::No(refusal);
+        }
         InputAnswer::Got(input, next) => {
             let state = words::pair(next, text, words, b"occupied", b"vacant");
             match state {
-                PairAnswer::No(refusal) => TriggerAnswer::No(refusal),
+                PairAnswer::No(refusal) => {
+                    return TriggerAnswer::No(refusal);
+                }
                 PairAnswer::Got(occupied, behind) => {
-                    TriggerAnswer::Got(
+                    return TriggerAnswer::Got(
                         Trigger::InputOccupancy(input, occupancy_by(occupied)),
                         behind,
-                    )
+                    );
                 }
             }
         }
@@ -736,19 +870,27 @@ fn light_cross(c: Cursor, text: &[u8], words: &[u32], input: InputRef) -> Trigge
 {
     let crosses = c.expect_kw(text, words, b"crosses");
     match crosses {
-        Taken::No(refusal) => TriggerAnswer::No(refusal),
+        Taken::No(refusal) => {
+            return TriggerAnswer::No(refusal);
+        }
         Taken::Got(_, crossed) => {
             let direction = words::pair(crossed, text, words, b"above", b"below");
             match direction {
-                PairAnswer::No(refusal) => TriggerAnswer::No(refusal),
+                PairAnswer::No(refusal) => {
+                    return TriggerAnswer::No(refusal);
+                }
                 PairAnswer::Got(above, next) => {
                     let threshold = next.expect_int_in(text, words, 0, 1023);
                     match threshold {
-                        Taken::No(refusal) => TriggerAnswer::No(refusal),
-                        Taken::Got(n, behind) => TriggerAnswer::Got(
-                            Trigger::InputLightCross(input, crossing_by(above), n),
-                            behind,
-                        ),
+                        Taken::No(refusal) => {
+                            return TriggerAnswer::No(refusal);
+                        }
+                        Taken::Got(n, behind) => {
+                            return TriggerAnswer::Got(
+                                Trigger::InputLightCross(input, crossing_by(above), n),
+                                behind,
+                            );
+                        }
                     }
                 }
             }
@@ -761,8 +903,12 @@ fn position_change(c: Cursor, text: &[u8], words: &[u32], input: InputRef) -> Tr
 {
     let changes = c.expect_kw(text, words, b"changes");
     match changes {
-        Taken::No(refusal) => TriggerAnswer::No(refusal),
-        Taken::Got(_, behind) => TriggerAnswer::Got(Trigger::InputPositionChange(input), behind),
+        Taken::No(refusal) => {
+            return TriggerAnswer::No(refusal);
+        }
+        Taken::Got(_, behind) => {
+            return TriggerAnswer::Got(Trigger::InputPositionChange(input), behind);
+        }
     }
 }
 
@@ -797,15 +943,19 @@ fn point_trigger(
 {
     let input = args::one_instance(paren, c, selector);
     match input {
-        InputAnswer::No(refusal) => TriggerAnswer::No(refusal),
+        InputAnswer::No(refusal) => {
+            return TriggerAnswer::No(refusal);
+        }
         InputAnswer::Got(input, next) => {
             let i = next.index;
             let word = next.expect_ident(text, words);
             match word {
-                Taken::No(refusal) => TriggerAnswer::No(refusal),
+                Taken::No(refusal) => {
+                    return TriggerAnswer::No(refusal);
+                }
                 Taken::Got(_, behind) => {
                     let w = tokens::record::bytes(text, words, i);
-                    property_trigger(i, behind, w, text, words, input)
+                    return property_trigger(i, behind, w, text, words, input);
                 }
             }
         }
@@ -853,8 +1003,12 @@ fn input_trigger(
     }
     let source = args::input_selector(c, text, words, s, settings);
     match source {
-        SelectorAnswer::No(refusal) => TriggerAnswer::No(refusal),
-        SelectorAnswer::Got(selector, behind) => { input_change(behind, text, words, i, selector) }
+        SelectorAnswer::No(refusal) => {
+            return TriggerAnswer::No(refusal);
+        }
+        SelectorAnswer::Got(selector, behind) => {
+            return input_change(behind, text, words, i, selector);
+        }
     }
 }
 
@@ -947,10 +1101,12 @@ pub fn trigger_at(
     let i = c.index;
     let word = c.expect_ident(text, words);
     match word {
-        Taken::No(refusal) => TriggerAnswer::No(refusal),
+        Taken::No(refusal) => {
+            return TriggerAnswer::No(refusal);
+        }
         Taken::Got(_, behind) => {
             let w = tokens::record::bytes(text, words, i);
-            trigger_by(i, behind, w, text, words, s, settings)
+            return trigger_by(i, behind, w, text, words, s, settings);
         }
     }
 }

@@ -6,7 +6,7 @@ use Rattle.sections.proofs.condition.comparison_at.Statement.{statement
 use Rattle.sections.proofs.condition.comparison_at.Tie as tie
 
 -- no token: the definition stays shut, for the rule speaks of it as a whole
-ends : tie.Need-returns-7
+ends : tie.Need-returns
 ends c = search no-comparisons depth 12
 
 pub comparison-at-spec : {M : Type 1} → statement M
@@ -18,6 +18,7 @@ comparison-at-spec =
     (λ c κs. search needs)
     (λ c. search needs)
     (λ c κs. search needs)
+    ends
     (λ c. search needs)
     (λ c. search comparisons depth 14)
     (λ c. search comparisons depth 14)
@@ -26,5 +27,4 @@ comparison-at-spec =
     (λ c. search comparisons depth 14)
     (λ c. search comparisons depth 14)
     (λ c κs. search needs)
-    ends
     (λ c. search comparisons depth 14))

@@ -11,8 +11,8 @@ last-fired-condition-spec =
     (tie.spec
     (λ c κs. search needs)
     (λ c. search needs)
+    (λ c. search phrases depth 12)
     (λ c. search needs)
     (λ c κs. search needs)
     (λ c κs. search needs)
-    (λ c. search phrases depth 12)
     (λ c. search phrases depth 12))

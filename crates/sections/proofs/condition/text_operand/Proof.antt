@@ -12,10 +12,10 @@ text-operand-spec =
     (tie.spec
     (λ c κs. search needs)
     (λ c. search needs)
+    (λ c. search operands depth 12)
     (λ c. search needs)
     (λ c κs. search needs)
     (λ c κs. search needs)
     (λ c. search operands depth 12)
     (λ c κs. search needs)
-    (λ c. search operands depth 12)
     (λ c. search operands depth 12))

@@ -14,6 +14,6 @@ var-operand-spec =
     (λ c. search operands depth 12)
     (λ c κs. search needs)
     (λ c. search needs)
-    (λ c. search needs)
     (λ c. search operands depth 12)
+    (λ c. search needs)
     (λ c. search operands depth 12))

@@ -14,6 +14,6 @@ at-bound-spec =
     (λ c κs. search needs)
     (λ c κs. search needs)
     (λ c. search times depth 12)
-    (λ c. search needs)
     (λ c. search times depth 12)
+    (λ c. search needs)
     (λ c. search times depth 12))

@@ -11,6 +11,6 @@ input-event-spec =
     (tie.spec
     (λ c κs. search needs)
     (λ c. search needs)
-    (λ c. search needs)
     (λ c. search inputs depth 12)
+    (λ c. search needs)
     (λ c. search inputs depth 12))

@@ -17,7 +17,7 @@ input-trigger-spec =
     (λ c. search needs)
     (λ c κs. search needs)
     (λ c. search needs)
+    (λ c. search inputs depth 12)
     (λ c. search needs)
     (λ c κs. search needs)
-    (λ c. search inputs depth 12)
     (λ c. search inputs depth 12))

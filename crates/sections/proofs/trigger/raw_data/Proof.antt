@@ -12,10 +12,10 @@ raw-data-spec =
     (tie.spec
     (λ c κs. search needs)
     (λ c. search needs)
+    (λ c. search events depth 12)
     (λ c. search needs)
     (λ c κs. search needs)
     (λ c. search needs)
+    (λ c. search events depth 12)
     (λ c. search needs)
-    (λ c. search events depth 12)
-    (λ c. search events depth 12)
     (λ c. search events depth 12))

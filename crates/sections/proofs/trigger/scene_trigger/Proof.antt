@@ -12,11 +12,11 @@ scene-trigger-spec =
     (tie.spec
     (λ c κs. search needs)
     (λ c. search needs)
+    (λ c. search scenes depth 12)
     (λ c. search needs)
     (λ c κs. search needs)
     (λ c. search needs)
+    (λ c. search scenes depth 12)
     (λ c. search needs)
     (λ c κs. search needs)
-    (λ c. search scenes depth 12)
-    (λ c. search scenes depth 12)
     (λ c. search scenes depth 12))
