@@ -1,7 +1,9 @@
-//! The proved lexer as a Rust function, and its comparison with the supplied Rust and the second reader.
+//! The proved lexer and the whole call as Rust functions, the comparison of the first with the supplied Rust and the second
+//! reader, and what the speed of both is measured on.
 
 pub mod agree;
 pub mod coverage;
+pub mod inputs;
 pub mod short;
 pub mod texts;
 
@@ -13,6 +15,17 @@ extern "C" {
     fn tergyosul_lex(
         text: *const u8,
         text_length: usize,
+        words: *mut u32,
+        words_length: usize,
+        answer: *mut u32,
+        answer_length: usize,
+    ) -> u32;
+
+    fn tergyosul_read(
+        text: *const u8,
+        text_length: usize,
+        sheet: *const u8,
+        sheet_length: usize,
         words: *mut u32,
         words_length: usize,
         answer: *mut u32,
@@ -47,6 +60,24 @@ pub fn lex_into(text: &[u8], words: &mut [u32], answer: &mut [u32]) -> u32 {
         tergyosul_lex(
             text.as_ptr(),
             text.len(),
+            words.as_mut_ptr(),
+            words.len(),
+            answer.as_mut_ptr(),
+            answer.len(),
+        )
+    }
+}
+
+/// The whole call: reads a rule text with a name sheet. The layout of the answer is include/tergyosul.h's; one of fewer than
+/// 108 words is left as it is.
+pub fn read(text: &[u8], sheet: &[u8], words: &mut [u32], answer: &mut [u32]) -> u32 {
+    // SAFETY: each pointer and length is a slice that is borrowed for the call, and the two mutable ones overlap nothing.
+    unsafe {
+        tergyosul_read(
+            text.as_ptr(),
+            text.len(),
+            sheet.as_ptr(),
+            sheet.len(),
             words.as_mut_ptr(),
             words.len(),
             answer.as_mut_ptr(),

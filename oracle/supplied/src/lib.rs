@@ -20,8 +20,9 @@ use crate::cursor::Cursor;
 use crate::lexer::{Lexed, Pos};
 use crate::sheet::Sheet;
 use crate::tokens::Record;
-use dali2rust_rules_model::{Condition, Trigger};
+use dali2rust_rules_model::{CompileError, Condition, Trigger};
 use std::fmt::Write;
+use std::str::Utf8Error;
 
 /// The longest text, and the smallest token buffer, that document 01 allows.
 const MOST_TEXT_BYTES: usize = 16_384;
@@ -139,6 +140,37 @@ fn parsed(lexed: Lexed, sheet: &Sheet) -> Verdict {
         Ok(_) if cursor.peek().is_some() => Verdict::Refused(Refusal::at(41, cursor.here())),
         Ok((triggers, conditions)) => Verdict::Accepted(triggers, conditions),
     }
+}
+
+/// Why a plain call takes nothing.
+#[derive(Debug)]
+pub enum Untaken {
+    /// The sheet's first bad line.
+    Sheet(u32),
+    Text(Utf8Error),
+    /// What the supplied Rust says.
+    Rule(CompileError),
+    /// A token is left behind both sections.
+    Rest,
+}
+
+/// The sheet alone into its tables, to be timed apart: this part is the driver's, not the supplied Rust's.
+pub fn plain_sheet(sheet: &[u8]) -> Result<Sheet, Untaken> {
+    Sheet::read(sheet).map_err(Untaken::Sheet)
+}
+
+/// A whole call with nothing around it, to be timed: the sheet into its tables, the text as characters, the supplied `lex`,
+/// and its two sections up to the end of the tokens. Questions 1, 2 and 19 are not asked, and no records are made.
+pub fn plain_call(text: &[u8], sheet: &[u8]) -> Result<(Vec<Trigger>, Vec<Condition>), Untaken> {
+    let sheet = plain_sheet(sheet)?;
+    let text = std::str::from_utf8(text).map_err(Untaken::Text)?;
+    let lexed = supplied_lex(text).map_err(Untaken::Rule)?;
+    let mut cursor = Cursor::new(lexed, &sheet);
+    let lists = parser::action::sections(&mut cursor).map_err(Untaken::Rule)?;
+    if cursor.peek().is_some() {
+        return Err(Untaken::Rest);
+    }
+    Ok(lists)
 }
 
 /// The supplied files as they stand in docs/src, and as they were built, for the tests.

@@ -3,7 +3,7 @@ use native.Mathlib.Omega.{arith}
 use lib.ListN.{length-set}
 use borrow.Author.Tests.{le-ltb}
 use Rattle.text.proofs.Tests.{steps}
-use Rattle.tergyosul.specs.Flat.{fourFirst}
+use Rattle.tergyosul.specs.Lexing.{fourFirst}
 use Rattle.tergyosul.proofs.put_four.Statement.{statement}
 use Rattle.tergyosul.proofs.put_four.Tie as tie
 

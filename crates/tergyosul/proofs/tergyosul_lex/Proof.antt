@@ -5,7 +5,7 @@ use Prim.Native.Nat.{ℕ}
 use Rattle.text.specs.Place.{counted}
 use Rattle.tokens.specs.declared.lexer.Lexed.{Lexed}
 use Rattle.tokens.specs.declared.lexer.Lexed.the-variants.{Tokens, Refused}
-use Rattle.tergyosul.specs.Flat.{fourFirst, lexNumber, lexFlat}
+use Rattle.tergyosul.specs.Lexing.{fourFirst, lexNumber, lexFlat}
 use Rattle.tergyosul.proofs.tergyosul_lex.Statement.{statement}
 use Rattle.tergyosul.proofs.tergyosul_lex.Tie as tie
 

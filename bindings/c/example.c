@@ -1,0 +1,224 @@
+/*
+ * Reads a rule with its name sheet and says what it has.
+ *
+ *   example RULE SHEET
+ *
+ * The exit status is 0 if the rule is accepted, 1 if it is refused, 2 for wrong usage or a file that cannot be read.
+ */
+#include <stdio.h>
+
+#include "tergyosul.h"
+
+/* More than a text or a sheet may have, so that a file that is too long is passed whole and refused by the library. */
+#define ROOM 65536
+
+static uint8_t text[ROOM];
+static uint8_t sheet[ROOM];
+static uint32_t words[TERGYOSUL_TOKEN_WORDS];
+static uint32_t answer[TERGYOSUL_ANSWER_WORDS];
+
+/* The kinds by their numbers. The proved library gives none outside these tables. */
+static const char *const triggers[] = {
+    "none", "input event", "input occupancy", "input light crosses", "input position changes",
+    "input device power cycled", "input device manual config changed", "at time", "at solar event", "every",
+    "lamp turns", "lamp level crosses", "group becomes", "scene recalled", "device online", "hcl override",
+    "timer fires", "controller starts", "controller becomes active", "rule fails", "http trigger"
+};
+
+static const char *const conditions[] = {
+    "none", "time in range", "sun is", "lamp is", "lamp level", "lamp cct", "group state", "input occupancy",
+    "input light", "hcl state", "device online", "rule enabled", "last fired older than", "timer running",
+    "controller active", "var compared"
+};
+
+/* Reads a whole file. The result is 0 if it cannot be read or has more than ROOM bytes; nothing is cut off. */
+static int load(const char *path, uint8_t *bytes, size_t *length)
+{
+    FILE *file = fopen(path, "rb");
+    int fits;
+
+    if (file == NULL) {
+        fprintf(stderr, "%s: cannot be opened\n", path);
+        return 0;
+    }
+    *length = fread(bytes, 1, ROOM, file);
+    fits = fgetc(file) == EOF;
+    if (ferror(file)) {
+        fprintf(stderr, "%s: cannot be read\n", path);
+        fclose(file);
+        return 0;
+    }
+    fclose(file);
+    if (!fits) {
+        fprintf(stderr, "%s: more than %d bytes, which is no rule and no sheet\n", path, ROOM);
+    }
+    return fits;
+}
+
+/* One of two words, by its code. */
+static const char *either(uint32_t code, const char *first, const char *second)
+{
+    return code == 1 ? first : second;
+}
+
+/* A NAME: a range of the text's bytes. */
+static void put_name(const uint32_t *name)
+{
+    putchar('"');
+    fwrite(text + name[0], 1, name[1], stdout);
+    putchar('"');
+}
+
+/* Minutes since midnight. */
+static void put_time(uint32_t minutes)
+{
+    printf("%lu:%02lu", (unsigned long)(minutes / 60), (unsigned long)(minutes % 60));
+}
+
+/* SUN OFFSET. The offset is of 32 bits in two's complement; it is turned without an overflow. */
+static void put_solar(const uint32_t *solar)
+{
+    uint32_t offset = solar[1];
+
+    printf("%s", either(solar[0], "sunrise", "sunset"));
+    if (offset >= 2147483648u) {
+        printf(" - %lu ms", (unsigned long)(0u - offset));
+    } else if (offset > 0) {
+        printf(" + %lu ms", (unsigned long)offset);
+    }
+}
+
+static void put_bound(const uint32_t *bound)
+{
+    if (bound[0] == 1) {
+        put_time(bound[1]);
+    } else {
+        put_solar(bound + 1);
+    }
+}
+
+/* A lamp, a group or a device with its adapter. */
+static void put_ref(const char *kind, const uint32_t *ref)
+{
+    printf("%s %lu of adapter %lu", kind, (unsigned long)ref[1], (unsigned long)ref[0]);
+}
+
+/* The words beside a kind, as they stand in the row: for the entries that this example does not put in words. */
+static void put_words(const uint32_t *row)
+{
+    int i;
+
+    for (i = 1; i < TERGYOSUL_ROW; i++) {
+        printf(" %lu", (unsigned long)row[i]);
+    }
+}
+
+static void put_trigger(const uint32_t *row)
+{
+    printf("trigger, %s: ", triggers[row[0]]);
+    switch (row[0]) {
+    case TERGYOSUL_AT_TIME:
+        put_time(row[1]);
+        break;
+    case TERGYOSUL_AT_SOLAR:
+        put_solar(row + 1);
+        break;
+    case TERGYOSUL_EVERY:
+        printf("%lu ms", (unsigned long)row[1]);
+        break;
+    case TERGYOSUL_LAMP_TURNS:
+        put_ref("lamp", row + 1);
+        printf(" turns %s", either(row[3], "on", "off"));
+        break;
+    case TERGYOSUL_LAMP_LEVEL_CROSS:
+        put_ref("lamp", row + 1);
+        printf(" crosses %s %lu", either(row[3], "above", "below"), (unsigned long)row[4]);
+        break;
+    case TERGYOSUL_GROUP_BECOMES:
+        put_ref("group", row + 1);
+        printf(" becomes %s", either(row[3], "any_on", "all_off"));
+        break;
+    case TERGYOSUL_TIMER_FIRES:
+    case TERGYOSUL_RULE_FAILS:
+        put_name(row + 1);
+        break;
+    case TERGYOSUL_CONTROLLER_STARTS:
+    case TERGYOSUL_CONTROLLER_BECOMES_ACTIVE:
+    case TERGYOSUL_HTTP_TRIGGER:
+        printf("nothing beside it");
+        break;
+    default:
+        printf("words");
+        put_words(row);
+    }
+    putchar('\n');
+}
+
+static void put_condition(const uint32_t *row)
+{
+    printf("condition, %s: ", conditions[row[0]]);
+    switch (row[0]) {
+    case TERGYOSUL_IF_TIME_IN_RANGE:
+        put_bound(row + 1);
+        printf(" to ");
+        put_bound(row + 4);
+        break;
+    case TERGYOSUL_IF_SUN_IS:
+        printf("%s", either(row[1], "up", "down"));
+        break;
+    case TERGYOSUL_IF_LAMP_IS:
+        put_ref("lamp", row + 1);
+        printf(" is %s", either(row[3], "on", "off"));
+        break;
+    case TERGYOSUL_IF_GROUP_STATE:
+        put_ref("group", row + 1);
+        printf(" has %s", either(row[3], "any_on", "all_off"));
+        break;
+    case TERGYOSUL_IF_DEVICE_ONLINE:
+        put_ref("device", row + 1);
+        break;
+    case TERGYOSUL_IF_RULE_ENABLED:
+    case TERGYOSUL_IF_TIMER_RUNNING:
+        put_name(row + 1);
+        break;
+    case TERGYOSUL_IF_LAST_FIRED_OLDER_THAN:
+        put_name(row + 1);
+        printf(", %lu ms", (unsigned long)row[3]);
+        break;
+    case TERGYOSUL_IF_CONTROLLER_ACTIVE:
+        printf("nothing beside it");
+        break;
+    default:
+        printf("words");
+        put_words(row);
+    }
+    putchar('\n');
+}
+
+int main(int count, char **arguments)
+{
+    size_t text_length, sheet_length;
+    uint32_t i;
+
+    if (count != 3) {
+        fprintf(stderr, "usage: example RULE SHEET\n");
+        return 2;
+    }
+    if (!load(arguments[1], text, &text_length) || !load(arguments[2], sheet, &sheet_length)) {
+        return 2;
+    }
+    if (tergyosul_read(text, text_length, sheet, sheet_length, words, TERGYOSUL_TOKEN_WORDS, answer,
+                       TERGYOSUL_ANSWER_WORDS) != 0) {
+        printf("refused: number %lu, line %lu, column %lu, detail %lu\n", (unsigned long)answer[0],
+               (unsigned long)answer[1], (unsigned long)answer[2], (unsigned long)answer[3]);
+        return 1;
+    }
+    printf("accepted: triggers %lu, conditions %lu\n", (unsigned long)answer[4], (unsigned long)answer[5]);
+    for (i = 0; i < answer[4]; i++) {
+        put_trigger(answer + TERGYOSUL_ROW * (1 + i));
+    }
+    for (i = 0; i < answer[5]; i++) {
+        put_condition(answer + TERGYOSUL_ROW * (5 + i));
+    }
+    return 0;
+}

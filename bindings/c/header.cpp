@@ -1,0 +1,18 @@
+// The header in C++: bindings/run only checks that this compiles.
+#include "tergyosul.h"
+
+#include <cstdint>
+#include <vector>
+
+std::uint32_t triggers_of(const std::vector<std::uint8_t> &text, const std::vector<std::uint8_t> &sheet)
+{
+    static const std::uint8_t nothing = 0;
+    std::vector<std::uint32_t> words(TERGYOSUL_TOKEN_WORDS);
+    std::uint32_t answer[TERGYOSUL_ANSWER_WORDS] = {0};
+    // A vector without elements may have a null pointer.
+    const std::uint8_t *text_bytes = text.empty() ? &nothing : text.data();
+    const std::uint8_t *sheet_bytes = sheet.empty() ? &nothing : sheet.data();
+    const std::uint32_t number = tergyosul_read(text_bytes, text.size(), sheet_bytes, sheet.size(), words.data(),
+                                                words.size(), answer, TERGYOSUL_ANSWER_WORDS);
+    return number == 0 ? answer[4] : 0;
+}

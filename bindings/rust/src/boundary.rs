@@ -1,0 +1,66 @@
+//! The two calls of the C library, and all that is unsafe in this crate.
+//!
+//! `include/tergyosul.h` asks four things of a caller. Each holds for every call from here, because the pointers and lengths
+//! are those of slices that are borrowed while the call runs:
+//!
+//! - No pointer is null, not even with a length of 0: a slice's never is.
+//! - Each points to as many elements of its type as the length says. `usize` is C's `size_t`, `u8` and `u32` are its
+//!   `uint8_t` and `uint32_t`, and a slice's pointer is aligned.
+//! - The elements were written before: those of a slice are initialised. The library writes whole words, so they stay so.
+//! - An array that is written is apart from all the others: `words` and `answer` are borrowed mutably, so neither overlaps
+//!   the other, the text or the sheet. The text and the sheet, which are only read, may be the same bytes.
+//!
+//! The library has no state, so it keeps no pointer after it returns. That it stays within the slices and returns from every
+//! call is proved. The declarations below are the header's.
+
+extern "C" {
+    fn tergyosul_read(
+        text: *const u8,
+        text_length: usize,
+        sheet: *const u8,
+        sheet_length: usize,
+        words: *mut u32,
+        words_length: usize,
+        answer: *mut u32,
+        answer_length: usize,
+    ) -> u32;
+
+    fn tergyosul_lex(
+        text: *const u8,
+        text_length: usize,
+        words: *mut u32,
+        words_length: usize,
+        answer: *mut u32,
+        answer_length: usize,
+    ) -> u32;
+}
+
+pub fn read(text: &[u8], sheet: &[u8], words: &mut [u32], answer: &mut [u32]) -> u32 {
+    // SAFETY: as above: four slices that are borrowed for the call, the two mutable ones apart from all others.
+    unsafe {
+        tergyosul_read(
+            text.as_ptr(),
+            text.len(),
+            sheet.as_ptr(),
+            sheet.len(),
+            words.as_mut_ptr(),
+            words.len(),
+            answer.as_mut_ptr(),
+            answer.len(),
+        )
+    }
+}
+
+pub fn lex(text: &[u8], words: &mut [u32], answer: &mut [u32]) -> u32 {
+    // SAFETY: as above: three slices that are borrowed for the call, the two mutable ones apart from all others.
+    unsafe {
+        tergyosul_lex(
+            text.as_ptr(),
+            text.len(),
+            words.as_mut_ptr(),
+            words.len(),
+            answer.as_mut_ptr(),
+            answer.len(),
+        )
+    }
+}

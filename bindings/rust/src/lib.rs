@@ -1,0 +1,79 @@
+//! Tergyosul, the rule reader of the lighting controllers, for Rust.
+//!
+//! [`read`] takes a rule text and a name sheet, both as bytes, and gives the rule's triggers and conditions or one numbered
+//! refusal with its place. The reading is done by the proved library, through its C ABI (`include/tergyosul.h`); this crate
+//! passes the slices and turns the answer's words into types, which have the names and shapes of the library's own.
+//! It needs no standard library, allocates nothing and keeps nothing between calls, so that calls may run at the same time.
+//!
+//! ```
+//! use tergyosul::{Condition, Power, Ref, Sun, Trigger};
+//!
+//! let text = b"when lamp(\"Till\") turns on when timer(\"Close\") fires if sun is down";
+//! let sheet = b"primary,0\nlamp,1,7,Till\n";
+//! let mut words = [0; tergyosul::TOKEN_WORDS];
+//!
+//! let rule = tergyosul::read(text, sheet, &mut words).expect("the rule is well formed");
+//! let till = Ref { adapter: 1, number: 7 };
+//! assert_eq!(rule.triggers()[0], Trigger::LampTurns(till, Power::On));
+//! assert_eq!(rule.conditions(), [Condition::SunIs(Sun::Down)]);
+//!
+//! // A name that the rule only carries is a range of the text's bytes.
+//! let Trigger::TimerFires(name) = rule.triggers()[1] else { panic!("the second trigger is a timer's") };
+//! assert_eq!(name.of(text), Some(&b"Close"[..]));
+//!
+//! let refusal = tergyosul::read(b"when lamp(\"Tills\") turns on", sheet, &mut words).unwrap_err();
+//! assert_eq!((refusal.number, refusal.line, refusal.column), (31, 1, 11));
+//! assert_eq!(refusal.to_string(), "1:11: no row of that kind has the name (refusal 31)");
+//! ```
+
+#![no_std]
+#![deny(unsafe_code, missing_docs)]
+
+#[cfg(test)]
+extern crate std;
+
+#[allow(unsafe_code)]
+mod boundary;
+mod layout;
+mod refusal;
+mod rule;
+#[cfg(test)]
+mod tests;
+
+pub use refusal::Refusal;
+pub use rule::{
+    Aggregate, Comparison, Condition, Crossing, Event, Hcl, InputRef, LightTarget, Name, Occupancy, Online, Operand,
+    Override, Power, Reading, Ref, Rule, Selector, SolarEvent, Sun, TimeBound, Trigger, Value,
+};
+
+/// How many words a caller lends for the tokens of a text, at least: 1,024 records of six. With fewer [`read`] and [`lex`]
+/// give refusal 2.
+pub const TOKEN_WORDS: usize = 6_144;
+
+/// Reads a rule text with a name sheet.
+///
+/// The records of the tokens go to `words`, six each (kind, number, start, length, line, column); with refusals 1 to 4 these
+/// are left as they are. What the words hold before plays no part.
+///
+/// # Panics
+///
+/// If the linked library gives an answer outside the layout of `include/tergyosul.h`. The proved library gives none, so
+/// that means that another one was linked.
+pub fn read(text: &[u8], sheet: &[u8], words: &mut [u32]) -> Result<Rule, Refusal> {
+    let mut answer = [0; layout::ANSWER_WORDS];
+    boundary::read(text, sheet, words, &mut answer);
+    layout::rule(&answer)
+}
+
+/// Lexes a text alone, and gives the count of its tokens. Their records go to `words`, as [`read`] writes them.
+///
+/// Question 4 is not asked: a text that is not UTF-8 is lexed up to the first place where no character begins.
+pub fn lex(text: &[u8], words: &mut [u32]) -> Result<usize, Refusal> {
+    let mut answer = [0; 4];
+    boundary::lex(text, words, &mut answer);
+    let [number, line, column, count] = answer;
+    if number != 0 {
+        return Err(Refusal { number, line, column, detail: 0 });
+    }
+    Ok(count as usize)
+}

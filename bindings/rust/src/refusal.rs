@@ -1,0 +1,79 @@
+//! Why a text is not taken.
+
+use core::fmt;
+
+/// A refusal: its number, its place and a detail. `docs/MANUAL.md` has an example of each and says what to do.
+#[derive(Debug, Clone, Copy, PartialEq, Eq, Hash)]
+pub struct Refusal {
+    /// 1 to 4, 10 to 13 or 15 to 41.
+    pub number: u32,
+    /// From 1, or 0 where there is no place. For number 3 it is the sheet's line, for the others the text's.
+    pub line: u32,
+    /// From 1, in characters; 0 for the numbers 1 to 3.
+    pub column: u32,
+    /// With 32 an adapter, with 33 and 34 a count of rows, else 0.
+    pub detail: u32,
+}
+
+impl Refusal {
+    /// What the number means, in a few words.
+    pub const fn meaning(&self) -> &'static str {
+        match self.number {
+            1 => "the text has more than 16384 bytes",
+            2 => "fewer than 6144 words were lent for the tokens",
+            3 => "the sheet is not well formed",
+            4 => "the text is not UTF-8",
+            10 => "no token begins here",
+            11 => "a string is not closed on its line",
+            12 => "a number is too large",
+            13 => "this is no time of day",
+            15 => "a decimal has more than four places",
+            16 => "there is no such unit",
+            17 => "a duration is too long",
+            18 => "a duration is no whole number of milliseconds",
+            19 => "the text has more than 1024 tokens",
+            20 => "something else belongs here",
+            21 => "the word is none of the choices",
+            22 => "a number is out of range",
+            23 => "a name is empty",
+            24 => "a name or text is too long",
+            25 => "the adapter is not listed",
+            26 => "a third argument has no name",
+            27 => "group stands together with dev or inst",
+            28 => "there is neither dev nor group",
+            29 => "dev stands without inst",
+            30 => "this form needs one instance",
+            31 => "no row of that kind has the name",
+            32 => "the name stands on another adapter",
+            33 => "several rows on one adapter have the name",
+            34 => "several adapters have the name",
+            35 => "a period is below one second",
+            36 => "a solar offset is too long",
+            37 => "there are more than four triggers",
+            38 => "there is no trigger",
+            39 => "there are more than four conditions",
+            40 => "this form is left out",
+            41 => "the text goes on after the rule",
+            _ => "the number is not known",
+        }
+    }
+}
+
+impl fmt::Display for Refusal {
+    fn fmt(&self, f: &mut fmt::Formatter<'_>) -> fmt::Result {
+        match *self {
+            Refusal { line: 0, .. } => {}
+            Refusal { number: 3, line, .. } => write!(f, "sheet line {line}: ")?,
+            Refusal { line, column, .. } => write!(f, "{line}:{column}: ")?,
+        }
+        f.write_str(self.meaning())?;
+        match *self {
+            Refusal { number: 32, detail, .. } => write!(f, ", adapter {detail}")?,
+            Refusal { number: 33 | 34, detail, .. } => write!(f, ", {detail} rows")?,
+            _ => {}
+        }
+        write!(f, " (refusal {})", self.number)
+    }
+}
+
+impl core::error::Error for Refusal {}

@@ -1,0 +1,306 @@
+//! What a rule says: the library's own types, with its names and shapes.
+
+use core::fmt;
+
+/// How many triggers a rule has at most, and how many conditions.
+pub(crate) const MOST: usize = 4;
+
+/// A rule that was taken: one to four triggers and none to four conditions.
+#[derive(Clone, Copy, PartialEq, Eq, Hash)]
+pub struct Rule {
+    // The entries past a count are HttpTrigger and ControllerActive, as in the library.
+    pub(crate) triggers: [Trigger; MOST],
+    pub(crate) trigger_count: usize,
+    pub(crate) conditions: [Condition; MOST],
+    pub(crate) condition_count: usize,
+}
+
+impl Rule {
+    /// The triggers, in the text's order; each of them sets the rule off.
+    pub fn triggers(&self) -> &[Trigger] {
+        &self.triggers[..self.trigger_count]
+    }
+
+    /// The conditions, in the text's order; all of them must hold.
+    pub fn conditions(&self) -> &[Condition] {
+        &self.conditions[..self.condition_count]
+    }
+}
+
+impl fmt::Debug for Rule {
+    fn fmt(&self, f: &mut fmt::Formatter<'_>) -> fmt::Result {
+        f.debug_struct("Rule").field("triggers", &self.triggers()).field("conditions", &self.conditions()).finish()
+    }
+}
+
+/// A name or other string in a rule: the range of its bytes in the rule text, inside the quotes.
+#[derive(Debug, Clone, Copy, PartialEq, Eq, Hash)]
+pub struct Name {
+    /// The offset of the first byte.
+    pub start: u32,
+    /// How many bytes there are.
+    pub length: u32,
+}
+
+impl Name {
+    /// The bytes in the text that was read. There are none if another, shorter text is given. A rule's text is UTF-8, and so
+    /// is every name in it.
+    pub fn of<'a>(&self, text: &'a [u8]) -> Option<&'a [u8]> {
+        let start = usize::try_from(self.start).ok()?;
+        let length = usize::try_from(self.length).ok()?;
+        text.get(start..)?.get(..length)
+    }
+}
+
+/// What a reference is to, a lamp, a group or a device: an adapter and a number on it.
+#[derive(Debug, Clone, Copy, PartialEq, Eq, Hash)]
+pub struct Ref {
+    /// 0 to 255.
+    pub adapter: u32,
+    /// 0 to 63; of a group 0 to 15.
+    pub number: u32,
+}
+
+/// One instance of an input device.
+#[derive(Debug, Clone, Copy, PartialEq, Eq, Hash)]
+pub struct InputRef {
+    /// The input device.
+    pub device: Ref,
+    /// 0 to 31.
+    pub instance: u32,
+}
+
+/// What `input(…)` selects.
+#[derive(Debug, Clone, Copy, PartialEq, Eq, Hash)]
+pub enum Selector {
+    /// An instance of an input device.
+    Instance(Ref, u32),
+    /// A group of instances on an adapter (adapter, group), perhaps of one type. The library has a type `Number` of its own
+    /// for that; here it is an `Option`.
+    Group(u32, u32, Option<u32>),
+}
+
+/// What an HCL override is for.
+#[derive(Debug, Clone, Copy, PartialEq, Eq, Hash)]
+pub enum LightTarget {
+    /// A lamp.
+    Lamp(Ref),
+    /// A group.
+    Group(Ref),
+    /// All lamps of an adapter.
+    Broadcast(u32),
+}
+
+/// Sunrise or sunset.
+#[derive(Debug, Clone, Copy, PartialEq, Eq, Hash)]
+#[allow(missing_docs)]
+pub enum SolarEvent {
+    Sunrise,
+    Sunset,
+}
+
+/// An end of a range of time.
+#[derive(Debug, Clone, Copy, PartialEq, Eq, Hash)]
+pub enum TimeBound {
+    /// A time of day, in minutes since midnight.
+    Clock(u32),
+    /// A solar event with an offset in milliseconds.
+    Solar(SolarEvent, i32),
+}
+
+/// What an input says.
+#[derive(Debug, Clone, Copy, PartialEq, Eq, Hash)]
+#[allow(missing_docs)]
+pub enum Event {
+    Press,
+    Release,
+    ShortPress,
+    DoublePress,
+    LongPressStart,
+    LongPressRepeat,
+    LongPressStop,
+    ButtonFree,
+    ButtonStuck,
+    Movement,
+    NoMovement,
+    AnyEvent,
+    /// An event with this data, 0 to 1023.
+    Raw(u32),
+}
+
+/// Whether an input sees somebody.
+#[derive(Debug, Clone, Copy, PartialEq, Eq, Hash)]
+#[allow(missing_docs)]
+pub enum Occupancy {
+    Occupied,
+    Vacant,
+}
+
+/// On which side of a threshold.
+#[derive(Debug, Clone, Copy, PartialEq, Eq, Hash)]
+#[allow(missing_docs)]
+pub enum Crossing {
+    Above,
+    Below,
+}
+
+/// Whether a lamp is on.
+#[derive(Debug, Clone, Copy, PartialEq, Eq, Hash)]
+#[allow(missing_docs)]
+pub enum Power {
+    On,
+    Off,
+}
+
+/// What holds of the lamps of a group.
+#[derive(Debug, Clone, Copy, PartialEq, Eq, Hash)]
+#[allow(missing_docs)]
+pub enum Aggregate {
+    AnyOn,
+    AllOff,
+}
+
+/// How a device changes.
+#[derive(Debug, Clone, Copy, PartialEq, Eq, Hash)]
+#[allow(missing_docs)]
+pub enum Online {
+    GoesOffline,
+    ComesOnline,
+}
+
+/// How an HCL override changes.
+#[derive(Debug, Clone, Copy, PartialEq, Eq, Hash)]
+#[allow(missing_docs)]
+pub enum Override {
+    Starts,
+    Clears,
+}
+
+/// Where the sun is.
+#[derive(Debug, Clone, Copy, PartialEq, Eq, Hash)]
+#[allow(missing_docs)]
+pub enum Sun {
+    Up,
+    Down,
+}
+
+/// What holds of HCL.
+#[derive(Debug, Clone, Copy, PartialEq, Eq, Hash)]
+#[allow(missing_docs)]
+pub enum Hcl {
+    Enabled,
+    Overridden,
+}
+
+/// `==`, `!=`, `>=`, `<=`, `>` and `<`.
+#[derive(Debug, Clone, Copy, PartialEq, Eq, Hash)]
+#[allow(missing_docs)]
+pub enum Comparison {
+    Eq,
+    Ne,
+    Ge,
+    Le,
+    Gt,
+    Lt,
+}
+
+/// What is read while the controller runs.
+#[derive(Debug, Clone, Copy, PartialEq, Eq, Hash)]
+#[allow(missing_docs)]
+pub enum Reading {
+    LampLevel(Ref),
+    LampCct(Ref),
+    LampIsOn(Ref),
+    LampLastLevel(Ref),
+    GroupAnyOn(Ref),
+    GroupAllOff(Ref),
+    GroupMemberCount(Ref),
+    InputOccupied(InputRef),
+    InputLight(InputRef),
+    InputPosition(InputRef),
+    InputLastEventAge(InputRef),
+    TimeNow,
+    TimeHour,
+    TimeMinute,
+    TimeWeekday,
+    SunRise,
+    SunSet,
+    SunIsUp,
+    EventValue,
+    EventDevice,
+    EventInstance,
+    EventOption,
+    Var(Name),
+}
+
+/// A number, a reading, or a reading with a number added.
+#[derive(Debug, Clone, Copy, PartialEq, Eq, Hash)]
+#[allow(missing_docs)]
+pub enum Value {
+    Literal(i64),
+    Reads(Reading),
+    Offset(Reading, i64),
+}
+
+/// What a var is compared with.
+#[derive(Debug, Clone, Copy, PartialEq, Eq, Hash)]
+#[allow(missing_docs)]
+pub enum Operand {
+    /// At most 16 bytes, perhaps none.
+    Text(Name),
+    Number(Value),
+}
+
+/// What sets a rule off.
+#[derive(Debug, Clone, Copy, PartialEq, Eq, Hash)]
+#[allow(missing_docs)]
+pub enum Trigger {
+    InputEvent(Selector, Event),
+    InputOccupancy(InputRef, Occupancy),
+    /// The threshold is 0 to 1023.
+    InputLightCross(InputRef, Crossing, u32),
+    InputPositionChange(InputRef),
+    InputDevicePowerCycled(Ref),
+    InputDeviceManualConfigChanged(Ref),
+    /// In minutes since midnight.
+    AtTime(u32),
+    /// With an offset in milliseconds.
+    AtSolar(SolarEvent, i32),
+    /// In milliseconds.
+    Every(u32),
+    LampTurns(Ref, Power),
+    /// The threshold is 0 to 254.
+    LampLevelCross(Ref, Crossing, u32),
+    GroupBecomes(Ref, Aggregate),
+    /// Adapter and scene.
+    SceneRecalled(u32, u32),
+    DeviceOnline(Ref, Online),
+    HclOverride(LightTarget, Override),
+    TimerFires(Name),
+    ControllerStarts,
+    ControllerBecomesActive,
+    RuleFails(Name),
+    HttpTrigger,
+}
+
+/// What must hold for a rule to be carried out.
+#[derive(Debug, Clone, Copy, PartialEq, Eq, Hash)]
+#[allow(missing_docs)]
+pub enum Condition {
+    TimeInRange(TimeBound, TimeBound),
+    SunIs(Sun),
+    LampIs(Ref, Power),
+    LampLevel(Ref, Comparison, Value),
+    LampCct(Ref, Comparison, Value),
+    GroupState(Ref, Aggregate),
+    InputOccupancy(InputRef, Occupancy),
+    InputLight(InputRef, Crossing, Value),
+    HclState(LightTarget, Hcl),
+    DeviceOnline(Ref),
+    RuleEnabled(Name),
+    /// In milliseconds.
+    LastFiredOlderThan(Name, u32),
+    TimerRunning(Name),
+    ControllerActive,
+    VarCompare(Name, Comparison, Operand),
+}

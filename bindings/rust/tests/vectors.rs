@@ -1,0 +1,131 @@
+//! The stored calls of `crates/replay/stdin`, made through this crate and written in the replay format (docs/REPLAY.md) from
+//! its types: the answers must be those of `crates/replay/stdout`, to the byte.
+
+mod shown;
+
+use std::fmt::Write;
+use std::path::Path;
+use std::{fs, str};
+
+/// What every word holds before a call.
+const UNTOUCHED: u32 = u32::MAX;
+const RECORD: usize = 6;
+
+struct Case<'a> {
+    id: &'a str,
+    words: usize,
+    text: &'a [u8],
+    sheet: &'a [u8],
+}
+
+fn stored(name: &str) -> Vec<u8> {
+    let path = Path::new(env!("CARGO_MANIFEST_DIR")).join("../../crates/replay").join(name);
+    fs::read(&path).unwrap_or_else(|e| panic!("{}: {e}", path.display()))
+}
+
+/// `length` bytes and the LF behind them, taken from the front.
+fn body<'a>(input: &mut &'a [u8], length: &str) -> &'a [u8] {
+    let (body, rest) = input.split_at(length.parse().expect("a length"));
+    *input = rest.strip_prefix(b"\n").expect("LF behind a body");
+    body
+}
+
+fn cases(mut input: &[u8]) -> Vec<Case<'_>> {
+    let mut cases = Vec::new();
+    while !input.is_empty() {
+        let end = input.iter().position(|&b| b == b'\n').expect("LF behind a header");
+        let header: Vec<&str> = str::from_utf8(&input[..end]).expect("a header").split(' ').collect();
+        let ["case", id, words, text, sheet] = header[..] else { panic!("{header:?}") };
+        input = &input[end + 1..];
+        let text = body(&mut input, text);
+        let sheet = body(&mut input, sheet);
+        cases.push(Case { id, words: words.parse().expect("a length"), text, sheet });
+    }
+    cases
+}
+
+/// The answer to a case, in the replay format.
+fn answer(case: &Case) -> String {
+    let mut words = vec![UNTOUCHED; case.words];
+    let read = tergyosul::read(case.text, case.sheet, &mut words);
+    let mut out = format!("case {}\n", case.id);
+    let records = words.chunks_exact(RECORD).take_while(|record| record[0] != UNTOUCHED);
+    let mut used = 0;
+    for record in records {
+        used += RECORD;
+        out += "token";
+        record.iter().for_each(|word| write!(out, " {word}").unwrap());
+        out += "\n";
+    }
+    let kept = words[used..].iter().all(|&word| word == UNTOUCHED);
+    out += if kept { "buffer kept\n" } else { "buffer changed\n" };
+    match read {
+        Err(r) => writeln!(out, "refused {} {} {} {}", r.number, r.line, r.column, r.detail).unwrap(),
+        Ok(rule) => out += &shown::rule(&rule, case.text),
+    }
+    out
+}
+
+/// The stored answers, one for each case.
+fn answers(output: &str) -> Vec<String> {
+    let mut answers: Vec<String> = Vec::new();
+    for line in output.split_inclusive('\n') {
+        match answers.last_mut() {
+            Some(last) if !line.starts_with("case ") => *last += line,
+            _ => answers.push(line.to_string()),
+        }
+    }
+    answers
+}
+
+#[test]
+fn every_stored_answer_is_given() {
+    let input = stored("stdin");
+    let output = String::from_utf8(stored("stdout")).expect("the answers are UTF-8");
+    let (cases, answers) = (cases(&input), answers(&output));
+    assert!(cases.len() >= 366);
+    assert_eq!(cases.len(), answers.len());
+    for (case, expected) in cases.iter().zip(&answers) {
+        assert_eq!(answer(case), *expected, "case {}", case.id);
+    }
+}
+
+/// Lexing alone gives the same records, and the same refusal if it is one of lexing.
+#[test]
+fn lexing_agrees() {
+    let input = stored("stdin");
+    for case in cases(&input) {
+        let mut words = vec![UNTOUCHED; case.words];
+        let read = tergyosul::read(case.text, case.sheet, &mut words);
+        let mut lexed_words = vec![UNTOUCHED; case.words];
+        let lexed = tergyosul::lex(case.text, &mut lexed_words);
+        match read {
+            Err(refusal) if matches!(refusal.number, 3 | 4) => continue,
+            Err(refusal) if refusal.number < 20 => assert_eq!(lexed, Err(refusal), "case {}", case.id),
+            _ => {
+                let count = words.chunks_exact(RECORD).take_while(|record| record[0] != UNTOUCHED).count();
+                assert_eq!(lexed, Ok(count), "case {}", case.id);
+            }
+        }
+        assert_eq!(words, lexed_words, "case {}", case.id);
+    }
+}
+
+/// The calls share nothing, so those of several threads do not meet.
+#[test]
+fn calls_of_several_threads() {
+    let input = stored("stdin");
+    let output = String::from_utf8(stored("stdout")).expect("the answers are UTF-8");
+    let (cases, answers) = (cases(&input), answers(&output));
+    std::thread::scope(|scope| {
+        for first in 0..4 {
+            let (cases, answers) = (&cases, &answers);
+            scope.spawn(move || {
+                let from = first * cases.len() / 4;
+                for i in (from..cases.len()).chain(0..from) {
+                    assert_eq!(answer(&cases[i]), answers[i], "case {}", cases[i].id);
+                }
+            });
+        }
+    });
+}

@@ -1,0 +1,3 @@
+mod CodeLaws
+mod SignedLaws
+mod RowLaws

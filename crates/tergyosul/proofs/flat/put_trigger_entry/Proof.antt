@@ -1,0 +1,18 @@
+use borrow.Author.Needs.{needs}
+use mathlib.Core.Path.{_∙_}
+use Rattle.sections.specs.Read.{padded}
+use Rattle.tergyosul.specs.Flat.{rowOf, rowSet, triggerEntry}
+use Rattle.tergyosul.proofs.flat.put_trigger_entry.Statement.{statement}
+use Rattle.tergyosul.proofs.flat.put_trigger_entry.Tie as tie
+
+pub put-trigger-entry-spec : {M : Type 1} → statement M
+unfolding rowSet rowOf padded triggerEntry
+put-trigger-entry-spec =
+    tie.close
+    (tie.spec
+    (λ c κs. search needs)
+    (λ c. search needs)
+    (λ c. c .before .before .put-trigger .ensures ∙ rw (c .before .before .before .before .if1 .taken))
+    (λ c κs. search needs)
+    (λ c. search needs)
+    (λ c. c .before .before .short .ensures ∙ rw (c .before .before .before .before .if1 .left)))

@@ -1,0 +1,170 @@
+/*
+ * Tergyosul: the rule reader of the lighting controllers, for C.
+ *
+ * Link target/staticlib/libtergyosul.a, which `rt staticlib tergyosul` makes. Nothing is allocated and nothing is kept
+ * between calls, so that calls on different arrays may run at the same time.
+ *
+ * A slice is passed as a pointer and a length. What the proofs cannot see is the caller's part: each pointer is not null
+ * and points to as many elements as the length says (a length of 0 still wants a pointer that is not null), the
+ * elements were written before, and an array that is written is apart from all the others.
+ */
+#ifndef TERGYOSUL_H
+#define TERGYOSUL_H
+
+#include <stddef.h>
+#include <stdint.h>
+
+#ifdef __cplusplus
+extern "C" {
+#endif
+
+/* The least length of the words that are lent for the tokens: 1,024 records of six. With fewer the answer is refusal 2. */
+#define TERGYOSUL_TOKEN_WORDS 6144
+
+/*
+ * The length of an answer: nine rows of twelve words. Row 0 says how the reading went, rows 1 to 4 are the triggers and
+ * rows 5 to 8 the conditions. Row r begins at word TERGYOSUL_ROW * r. Words that a row does not name are 0.
+ *
+ *   row 0:   number, line, column, detail, count of triggers, count of conditions
+ *            An accepted text has four zeros and the counts; a refused one has the refusal and no entries.
+ *   entries: the kind, from the tables below, then the words that stand beside it. The rows of entries that are not in
+ *            use are 0.
+ *
+ * What the words beside a kind are:
+ *
+ *   REF       adapter, number                      of a lamp, a group or a device
+ *   INPUT     adapter, number, instance            of an input device
+ *   NAME      start, length                        a range of the text's bytes, inside the quotes
+ *   SELECTOR  1, adapter, number, instance         one instance of an input device
+ *             2, adapter, group, type              an instance group; the type is TERGYOSUL_NO_TYPE where none is given
+ *   EVENT     code, data                           the data is 0 except for a raw event
+ *   TARGET    1, adapter, number                   a lamp
+ *             2, adapter, number                   a group
+ *             3, adapter, 0                        all lamps of an adapter
+ *   BOUND     1, minutes since midnight, 0         a time of day
+ *             2, SUN, OFFSET                       a solar event with an offset
+ *   SUN       1 sunrise, 2 sunset
+ *   OFFSET    milliseconds, of 32 bits in two's complement
+ *   WAY       1 above, 2 below
+ *   CMP       1 ==, 2 !=, 3 >=, 4 <=, 5 >, 6 <
+ *   VALUE     kind, reading, a, b, c, low, high    seven words
+ *             kind 1: a number; kind 2: a reading; kind 3: a reading with a number added
+ *             reading: a code with the REF, INPUT or NAME beside it in a, b and c; 0 for kind 1
+ *             low, high: the number, of 64 bits in two's complement; 0 for kind 2
+ *   OPERAND   a VALUE, or 4, start, length         a number or a reading, or a text
+ */
+#define TERGYOSUL_ROW 12
+#define TERGYOSUL_ANSWER_WORDS 108
+#define TERGYOSUL_NO_TYPE 4294967295u
+
+/* The kinds of triggers, in rows 1 to 4. */
+enum tergyosul_trigger {
+    TERGYOSUL_INPUT_EVENT = 1,                        /* SELECTOR EVENT */
+    TERGYOSUL_INPUT_OCCUPANCY = 2,                    /* INPUT, 1 occupied 2 vacant */
+    TERGYOSUL_INPUT_LIGHT_CROSS = 3,                  /* INPUT WAY threshold */
+    TERGYOSUL_INPUT_POSITION_CHANGE = 4,              /* INPUT */
+    TERGYOSUL_INPUT_DEVICE_POWER_CYCLED = 5,          /* REF */
+    TERGYOSUL_INPUT_DEVICE_MANUAL_CONFIG_CHANGED = 6, /* REF */
+    TERGYOSUL_AT_TIME = 7,                            /* minutes since midnight */
+    TERGYOSUL_AT_SOLAR = 8,                           /* SUN OFFSET */
+    TERGYOSUL_EVERY = 9,                              /* milliseconds */
+    TERGYOSUL_LAMP_TURNS = 10,                        /* REF, 1 on 2 off */
+    TERGYOSUL_LAMP_LEVEL_CROSS = 11,                  /* REF WAY threshold */
+    TERGYOSUL_GROUP_BECOMES = 12,                     /* REF, 1 any_on 2 all_off */
+    TERGYOSUL_SCENE_RECALLED = 13,                    /* adapter, scene */
+    TERGYOSUL_DEVICE_ONLINE = 14,                     /* REF, 1 goes offline 2 comes online */
+    TERGYOSUL_HCL_OVERRIDE = 15,                      /* TARGET, 1 starts 2 clears */
+    TERGYOSUL_TIMER_FIRES = 16,                       /* NAME */
+    TERGYOSUL_CONTROLLER_STARTS = 17,
+    TERGYOSUL_CONTROLLER_BECOMES_ACTIVE = 18,
+    TERGYOSUL_RULE_FAILS = 19,                        /* NAME */
+    TERGYOSUL_HTTP_TRIGGER = 20
+};
+
+/* The kinds of conditions, in rows 5 to 8. */
+enum tergyosul_condition {
+    TERGYOSUL_IF_TIME_IN_RANGE = 1,          /* BOUND BOUND */
+    TERGYOSUL_IF_SUN_IS = 2,                 /* 1 up 2 down */
+    TERGYOSUL_IF_LAMP_IS = 3,                /* REF, 1 on 2 off */
+    TERGYOSUL_IF_LAMP_LEVEL = 4,             /* REF CMP VALUE */
+    TERGYOSUL_IF_LAMP_CCT = 5,               /* REF CMP VALUE */
+    TERGYOSUL_IF_GROUP_STATE = 6,            /* REF, 1 any_on 2 all_off */
+    TERGYOSUL_IF_INPUT_OCCUPANCY = 7,        /* INPUT, 1 occupied 2 vacant */
+    TERGYOSUL_IF_INPUT_LIGHT = 8,            /* INPUT WAY VALUE */
+    TERGYOSUL_IF_HCL_STATE = 9,              /* TARGET, 1 enabled 2 overridden */
+    TERGYOSUL_IF_DEVICE_ONLINE = 10,         /* REF */
+    TERGYOSUL_IF_RULE_ENABLED = 11,          /* NAME */
+    TERGYOSUL_IF_LAST_FIRED_OLDER_THAN = 12, /* NAME milliseconds */
+    TERGYOSUL_IF_TIMER_RUNNING = 13,         /* NAME */
+    TERGYOSUL_IF_CONTROLLER_ACTIVE = 14,
+    TERGYOSUL_IF_VAR_COMPARE = 15            /* NAME CMP OPERAND */
+};
+
+/* The codes of input events. */
+enum tergyosul_event {
+    TERGYOSUL_EVENT_PRESS = 1,
+    TERGYOSUL_EVENT_RELEASE = 2,
+    TERGYOSUL_EVENT_SHORT_PRESS = 3,
+    TERGYOSUL_EVENT_DOUBLE_PRESS = 4,
+    TERGYOSUL_EVENT_LONG_PRESS_START = 5,
+    TERGYOSUL_EVENT_LONG_PRESS_REPEAT = 6,
+    TERGYOSUL_EVENT_LONG_PRESS_STOP = 7,
+    TERGYOSUL_EVENT_BUTTON_FREE = 8,
+    TERGYOSUL_EVENT_BUTTON_STUCK = 9,
+    TERGYOSUL_EVENT_MOVEMENT = 10,
+    TERGYOSUL_EVENT_NO_MOVEMENT = 11,
+    TERGYOSUL_EVENT_ANY = 12,
+    TERGYOSUL_EVENT_RAW = 13 /* with its data */
+};
+
+/* The codes of readings, with what stands in a, b and c. */
+enum tergyosul_reading {
+    TERGYOSUL_READ_LAMP_LEVEL = 1,            /* REF */
+    TERGYOSUL_READ_LAMP_CCT = 2,              /* REF */
+    TERGYOSUL_READ_LAMP_IS_ON = 3,            /* REF */
+    TERGYOSUL_READ_LAMP_LAST_LEVEL = 4,       /* REF */
+    TERGYOSUL_READ_GROUP_ANY_ON = 5,          /* REF */
+    TERGYOSUL_READ_GROUP_ALL_OFF = 6,         /* REF */
+    TERGYOSUL_READ_GROUP_MEMBER_COUNT = 7,    /* REF */
+    TERGYOSUL_READ_INPUT_OCCUPIED = 8,        /* INPUT */
+    TERGYOSUL_READ_INPUT_LIGHT = 9,           /* INPUT */
+    TERGYOSUL_READ_INPUT_POSITION = 10,       /* INPUT */
+    TERGYOSUL_READ_INPUT_LAST_EVENT_AGE = 11, /* INPUT */
+    TERGYOSUL_READ_TIME_NOW = 12,
+    TERGYOSUL_READ_TIME_HOUR = 13,
+    TERGYOSUL_READ_TIME_MINUTE = 14,
+    TERGYOSUL_READ_TIME_WEEKDAY = 15,
+    TERGYOSUL_READ_SUN_RISE = 16,
+    TERGYOSUL_READ_SUN_SET = 17,
+    TERGYOSUL_READ_SUN_IS_UP = 18,
+    TERGYOSUL_READ_EVENT_VALUE = 19,
+    TERGYOSUL_READ_EVENT_DEVICE = 20,
+    TERGYOSUL_READ_EVENT_INSTANCE = 21,
+    TERGYOSUL_READ_EVENT_OPTION = 22,
+    TERGYOSUL_READ_VAR = 23 /* NAME */
+};
+
+/*
+ * Reads a rule text with a name sheet. The result is 0, or the number of the refusal. The whole answer goes to answer, as
+ * above; if that is shorter than TERGYOSUL_ANSWER_WORDS, it is left as it is. The records of the tokens go to words, six
+ * words each: kind, number, start, length, line, column; with refusals 1 to 4 these are left as they are.
+ */
+uint32_t tergyosul_read(const uint8_t *text, size_t text_length,
+                        const uint8_t *sheet, size_t sheet_length,
+                        uint32_t *words, size_t words_length,
+                        uint32_t *answer, size_t answer_length);
+
+/*
+ * Lexes a text. The records of its tokens go to words, as above. The result is 0, or the number of the refusal; answer gets
+ * number, line, column and the count of the tokens, if it has room for these four words. On acceptance line and column
+ * are those of the text's end.
+ */
+uint32_t tergyosul_lex(const uint8_t *text, size_t text_length,
+                       uint32_t *words, size_t words_length,
+                       uint32_t *answer, size_t answer_length);
+
+#ifdef __cplusplus
+}
+#endif
+
+#endif
