@@ -50,6 +50,12 @@ module _ (l : List ℕ) {i : ℕ} (comma : i ≡ indexOf 0x2C l) where
   unfolding hasComma
   has-by = rw comma
 
+  pub comma-yes : {A : Type 0} (a b : A) {x : A} → i < length l → x ≡ a → x ≡ pick (hasComma l) a b
+  comma-yes a b h e = rw (← has-by, lt-ltb i (length l) h) e
+
+  pub comma-no : {A : Type 0} (a b : A) {x : A} → length l ≤ i → x ≡ b → x ≡ pick (hasComma l) a b
+  comma-no a b h e = rw (← has-by, le-ltb i (length l) h) e
+
 -- behind the third comma
 pub name-by : (l : List ℕ) {a b x : List ℕ} → a ≡ rest l → b ≡ rest a → x ≡ rest b → x ≡ nameOf l
 unfolding nameOf
@@ -129,17 +135,19 @@ pub by-field : (w l : List ℕ) {v m : List ℕ} {x : Line} → v ≡ w → m �
 by-field w l d f e = rw (← d, ← f) e
 
 -- the rest m of a row is looked into only where the row has a comma
-module _ (kind : ℕ) (l : List ℕ) {m : List ℕ} {r : Bool} (behind : m ≡ rest l) (has : r ≡ hasComma m) where
-  pub row-yes : {f g name : List ℕ} {a n : ℕ} {x : Line} → r ≡ true → f ≡ field l → a ≡ numeral f → g ≡ field m → n ≡ numeral g →
+module _ (kind : ℕ) (l : List ℕ) {m : List ℕ} {k : ℕ} (behind : m ≡ rest l) (second : k ≡ indexOf 0x2C m) where
+  pub row-yes : {f g name : List ℕ} {a n : ℕ} {x : Line} → k < length m → f ≡ field l → a ≡ numeral f → g ≡ field m → n ≡ numeral g →
       name ≡ rest m → x ≡ rowBy kind a n name →
       x ≡ pick (hasComma (rest l)) (rowBy kind (numeral (field l)) (numeral (field (rest l))) (rest (rest l))) Bad
-  row-yes h f a g n name e = rw (← behind, ← has, h, ← f, ← a, ← g, ← n, ← name) e
+  row-yes h f a g n name e = rw (← behind) (comma-yes m second _ _ h (rw (← f, ← a, ← g, ← n, ← name) e))
 
-  pub row-no : (y : Line) → r ≡ false → Bad ≡ pick (hasComma (rest l)) y Bad
-  row-no y h = rw (← behind, ← has, h)
+  pub row-no : (y : Line) → length m ≤ k → Bad ≡ pick (hasComma (rest l)) y Bad
+  row-no y h = rw (← behind) (comma-no m second y Bad h refl)
 
 -- closes what is left of a function that reads a line
 pub ruleset reading = (
+  comma-yes,
+  comma-no,
   steps,
   find-all,
   none-by,

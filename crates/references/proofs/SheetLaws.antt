@@ -1,20 +1,21 @@
 -- The lines of a sheet, one after the other by their offsets.
-use mathlib.Core.Path.{_≡_, refl, ap}
+use mathlib.Core.Path.{_≡_, refl, ap, _∙_, sym}
 use mathlib.Core.Bool.{Bool, true, false}
 use mathlib.Core.List.{List, [], _∷_}
 use Prim.Native.Nat.{ℕ, suc, _+_, _-_, _*_, _^_, _<_, _≤_}
 use native.Mathlib.Nat.{suc-add, add-assoc}
 use native.Mathlib.Omega.{arith}
-use lib.ListN.{length, take, drop, length-drop, drop-of-length-le}
-use lib.Seq.{drop-drop}
+use native.Mathlib.Numerals.{add-one}
+use lib.ListN.{length, take, drop, getD, length-drop, drop-of-length-le}
+use lib.Seq.{drop-drop, drop-cons, take-length}
 use lib.Dec.{ltb, eqb}
 use mir.Syntax.{w64}
 use mir.Val.{Fits}
-use borrow.Author.Tests.{lt-ltb, ltb-true}
-use Rattle.bytes.specs.Bytes.{indexOf, indexAfter}
+use borrow.Author.Tests.{lt-ltb, ltb-true, ltb-false, eq-eqb, ne-eqb}
+use Rattle.bytes.specs.Bytes.{indexOf, indexAfter, slice}
 use Rattle.text.specs.Choice.{pick}
 use Rattle.text.specs.Part.{partOf}
-use Rattle.text.proofs.Tests.{picked}
+use Rattle.text.proofs.Tests.{picked, lt-no}
 use Rattle.references.specs.Sheet.{lines, lineEnd, onto}
 
 -- a first byte and the lines of the rest, by whether that byte is LF
@@ -86,3 +87,41 @@ less-left s at e h =
 -- and the offset behind it is a usize
 pub next-fits : (s : List ℕ) (at : ℕ) {end : ℕ} → end ≡ lineEnd s at → length s * 1 < 2 ^ 63 → Fits w64 (end + 1)
 next-fits s at e h = omega (arith, end-within s at)
+
+-- the end of a line, byte by byte
+pub end-past : (s : List ℕ) (at : ℕ) → length s ≤ at → length s ≡ lineEnd s at
+unfolding lineEnd
+end-past s at h = lt-no _ _ _ _ h refl
+
+end-is : (s : List ℕ) (i : ℕ) → i ≤ length s → lineEnd s i ≡ i + indexOf 0x0A (drop i s)
+unfolding lineEnd indexOf
+end-is s i h =
+    picked (λ (r : ℕ). r ≡ i + indexOf 0x0A (drop i s)) (ltb i (length s))
+    (λ e. refl)
+    (λ e.
+    let k : length s ≤ i = ltb-false i (length s) e in
+    rw (drop-of-length-le s k) (omega arith))
+
+first-at : (s : List ℕ) (i : ℕ) (t : Bool) → i < length s → eqb (getD s i 0) 0x0A ≡ t →
+    indexOf 0x0A (drop i s) ≡ indexAfter t (indexOf 0x0A (drop (i + 1) s))
+unfolding indexOf
+first-at s i t h e = rw (drop-cons s i 0 h, e, add-one)
+
+pub end-here : (s : List ℕ) (i : ℕ) → i < length s → getD s i 0 ≡ 0x0A → i ≡ lineEnd s i
+unfolding indexAfter
+end-here s i h e =
+    let k : i ≤ length s = omega arith in
+    let f = first-at s i true h (eq-eqb _ _ e) in
+    rw (end-is s i k, f) (omega arith)
+
+pub end-next : (s : List ℕ) (i : ℕ) → i < length s → (getD s i 0 ≡ 0x0A → ⊥) → lineEnd s (i + 1) ≡ lineEnd s i
+unfolding indexAfter
+end-next s i h e =
+    let k : i ≤ length s = omega arith in
+    let m : i + 1 ≤ length s = omega arith in
+    let f = first-at s i false h (ne-eqb _ _ e) in
+    rw (end-is s i k, end-is s (i + 1) m, f) (omega arith)
+
+pub end-found : (s : List ℕ) (i : ℕ) {r : ℕ} → i ≤ length s → r ≡ i + indexOf 0x0A (slice i (length s) s) → r ≡ lineEnd s i
+unfolding slice
+end-found s i h e = rw (take-length s) at e ∙ sym (end-is s i h)

@@ -7,7 +7,7 @@ use lib.Dec.{ltb, leb, eqb}
 use Rattle.bytes.specs.Bytes.{indexOf}
 use Rattle.text.specs.Choice.{pick, within}
 use Rattle.text.specs.Literal.{ascii}
-use Rattle.text.specs.Part.{sameBytes}
+use Rattle.text.specs.Part.{partOf, sameBytes}
 use Rattle.tokens.specs.Ascii.{isDigit}
 use Rattle.references.specs.declared.line.Line.{Line}
 use Rattle.references.specs.declared.line.Line.the-variants.{Primary, Adapter, Row, Bad}
@@ -78,3 +78,7 @@ lineOf l = pick (hasComma l) (lineBy (field l) (rest l)) Bad
 -- the name of a row's line: what is behind its third comma
 unfoldable pub nameOf : List ℕ → List ℕ
 nameOf l = rest (rest (rest l))
+
+-- whether the last bytes of a line are these
+unfoldable pub endsWith : List ℕ → List ℕ → Bool
+endsWith l w = pick (ltb (length l) (length w)) false (sameBytes (partOf l (length l - length w) (length l)) w)

@@ -165,19 +165,21 @@ fn row_by(kind: u32, adapter: u32, number: u32, name: &[u8]) -> Line
 fn row_of(kind: u32, l: &[u8]) -> Line
     ensures { λ r. ⌜ r ≡ rowOf kind (now (l .entry)) ⌝ }
 {
-    if has_comma(l) {
-        let more = behind_comma(l);
-        if has_comma(more) {
-            return row_by(
-                kind,
-                decimal(first_field(l)),
-                decimal(first_field(more)),
-                behind_comma(more),
-            );
-        }
+    let at = comma(l);
+    if l.len() <= at {
         return Line::Bad;
     }
-    Line::Bad
+    let more = text::part::part(l, at + 1, l.len());
+    let second = comma(more);
+    if more.len() <= second {
+        return Line::Bad;
+    }
+    row_by(
+        kind,
+        decimal(text::part::part(l, 0, at)),
+        decimal(text::part::part(more, 0, second)),
+        text::part::part(more, second + 1, more.len()),
+    )
 }
 
 fn line_by(w: &[u8], l: &[u8]) -> Line
@@ -220,10 +222,14 @@ fn adapter_of(a: u32) -> Line
 pub fn line_of(l: &[u8]) -> Line
     ensures { λ r. ⌜ r ≡ lineOf (now (l .entry)) ⌝ }
 {
-    if has_comma(l) {
-        return line_by(first_field(l), behind_comma(l));
+    let at = comma(l);
+    if l.len() <= at {
+        return Line::Bad;
     }
-    Line::Bad
+    line_by(
+        text::part::part(l, 0, at),
+        text::part::part(l, at + 1, l.len()),
+    )
 }
 
 // The name in a row's line.

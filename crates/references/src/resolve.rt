@@ -5,6 +5,7 @@ use crate::sheet;
 use text::place;
 ghost use mathlib.Core.Path.{_≡_};
 ghost use Rattle.text.specs.Choice.{pick};
+ghost use Rattle.references.specs.Line.{endsWith};
 ghost use Rattle.references.specs.Sheet.{namesOf};
 ghost use Rattle.references.specs.Resolve.{isIn, scopedTally, otherTally, tallied, lineTally, tally, noTally, foundBy, resolved};
 
@@ -105,8 +106,28 @@ fn with_row(t: Tally, scope: Scope, adapter: u32, number: u32) -> Tally
     other_tally(t, adapter)
 }
 
+// Whether a line ends with the name. No other line is a row that has it.
+fn ends_with(l: &[u8], name: &[u8]) -> bool
+    ensures { λ r. ⌜ r ≡ endsWith (now (l .entry)) (now (name .entry)) ⌝ }
+{
+    if l.len() < name.len() {
+        return false;
+    }
+    text::part::same(text::part::part(l, l.len() - name.len(), l.len()), name)
+}
+
 // One line more.
 fn with_line(t: Tally, l: &[u8], kind: u32, name: &[u8], scope: Scope) -> Tally
+    ensures { λ r. ⌜ r ≡ lineTally kind (now (name .entry)) scope t (now (l .entry)) ⌝ }
+{
+    if ends_with(l, name) {
+        return with_named(t, l, kind, name, scope);
+    }
+    t
+}
+
+// One line more, which may have the name.
+fn with_named(t: Tally, l: &[u8], kind: u32, name: &[u8], scope: Scope) -> Tally
     ensures { λ r. ⌜ r ≡ lineTally kind (now (name .entry)) scope t (now (l .entry)) ⌝ }
 {
     let said = line::line_of(l);

@@ -17,7 +17,8 @@ pub enum Sheet {
     BadLine(u32),
 }
 
-// The offset of the LF that ends the line at an offset; the length of the sheet where there is none.
+// The offset of the LF that ends the line at an offset; the length of the sheet where there is none. Every lookup reads the whole sheet by
+// this function, so that it takes four bytes a turn.
 pub fn line_end(s: &[u8], at: usize) -> usize
     ensures { λ r. ⌜ r ≡ lineEnd (now (s .entry)) at ⌝ }
 {
@@ -25,7 +26,23 @@ pub fn line_end(s: &[u8], at: usize) -> usize
     if len <= at {
         return len;
     }
-    bytes::scan::find(s, at, len, b'\n')
+    let mut i = at;
+    while 4 <= len - i {
+        if s[i] == b'\n' {
+            return i;
+        }
+        if s[i + 1] == b'\n' {
+            return i + 1;
+        }
+        if s[i + 2] == b'\n' {
+            return i + 2;
+        }
+        if s[i + 3] == b'\n' {
+            return i + 3;
+        }
+        i += 4;
+    }
+    bytes::scan::find(s, i, len, b'\n')
 }
 
 // May this line follow the first?

@@ -4,7 +4,7 @@ use Prim.Native.Nat.{ℕ, _<_, _≤_}
 use native.Mathlib.Omega.{arith}
 use mathlib.Core.List.{List, [], _∷_}
 use lib.ListN.{length}
-use Rattle.text.specs.Utf8.{decodeAt, Character, chars}
+use Rattle.text.specs.Utf8.{decodeAt, Character, chars, rowEnd}
 use Rattle.text.specs.Place.{after, stepOf, walked}
 use Rattle.text.specs.declared.utf8.Decoded.{Decoded}
 use Rattle.text.specs.declared.utf8.Decoded.the-variants.{Char, Bad, End}
@@ -70,3 +70,9 @@ walk-step {s} {p} {code} {next} t = walk-cons p (t .rest) ∙ ap (λ (k : Place)
 pub walk-stop : {s : List ℕ} {p : Place} → Stopped s p → walked p (chars s (p .at)) ≡ p
 unfolding walked
 walk-stop {s} {p} t = ap (walked p) (t .rest)
+
+-- a walk ends at the offset where the row of characters ends
+pub walk-row : (cs : List Character) (p : Place) → walked p cs .at ≡ rowEnd (p .at) cs
+unfolding walked after rowEnd
+walk-row [] p = refl
+walk-row (ch ∷ cs) p = walk-row cs (after p ch)

@@ -8,9 +8,10 @@ use lib.Count.{leadingZeros}
 use lib.ListN.{length, getD, drop, drop-of-length-le}
 use lib.Seq.{getD-drop, drop-cons}
 use lib.Dec.{eqb, eqb→eq, ltb}
+use borrow.Author.Tests.{lt-ltb}
 use Rattle.text.specs.Choice.{pick}
 use Rattle.text.specs.Utf8.{sequenceLength, sized, front, decodeAt}
-use Rattle.text.specs.declared.utf8.Decoded.the-variants.{End}
+use Rattle.text.specs.declared.utf8.Decoded.the-variants.{Char, End}
 use Rattle.text.proofs.Computed.{below}
 
 -- a sequence's length, by the leading ones of its first byte
@@ -40,3 +41,8 @@ unfolding decodeAt front
 decode-on s at h =
     ap (front at) (drop-cons s at 0 h)
     ∙ rw (behind s at 0 (at + 1) (omega arith), behind s at 1 (at + 2) (omega arith), behind s at 2 (at + 3) (omega arith))
+
+-- a byte below 0x80 is a character by itself
+pub decode-byte : (s : List ℕ) (at : ℕ) → at < length s → getD s at 0 < 0x80 → decodeAt s at ≡ Char (getD s at 0) (at + 1)
+unfolding sized sequenceLength
+decode-byte s at h k = decode-on s at h ∙ rw (lt-ltb (getD s at 0) 0x80 k)

@@ -78,3 +78,8 @@ charsFrom at (suc skip) (a ∷ l) = charsFrom (suc at) skip l
 -- the characters of s from an offset, up to the end or to the first place where none begins
 unfoldable pub chars : List ℕ → ℕ → List Character
 chars s at = charsFrom at 0 (drop at s)
+
+-- the offset behind these characters, which stand in a row from the offset at
+unfoldable pub rowEnd : ℕ → List Character → ℕ
+rowEnd at [] = at
+rowEnd at (ch ∷ cs) = rowEnd (ch .next) cs

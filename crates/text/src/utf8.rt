@@ -1,7 +1,7 @@
-// One character of UTF-8 (RFC 3629) at an offset. It stands for the Rust's Peekable<Chars>.
+// One character of UTF-8 (RFC 3629) at an offset, and the row of them from the start. It stands for the Rust's Peekable<Chars>.
 ghost use mathlib.Core.Path.{_≡_};
 ghost use lib.ListN.{getD};
-ghost use Rattle.text.specs.Utf8.{sequenceLength, isTail, isSecond, two, three, four, decodeAt};
+ghost use Rattle.text.specs.Utf8.{sequenceLength, isTail, isSecond, two, three, four, decodeAt, chars, rowEnd};
 ghost use Rattle.text.specs.Choice.{within};
 ghost use Rattle.text.specs.Rfc3629.{Stands};
 
@@ -158,4 +158,31 @@ pub fn decode(s: &[u8], at: usize) -> Decoded
         );
     }
     Decoded::Bad
+}
+
+// The offset behind the characters of s that stand in a row from its start. A byte below 0x80 is one by itself, and for speed read
+// in place.
+pub fn row_end(s: &[u8]) -> usize
+    ensures { λ r. ⌜ r ≡ rowEnd 0 (chars (now (s .entry)) 0) ⌝ }
+{
+    let mut at: usize = 0;
+    while at < s.len() {
+        if s[at] < 0x80 {
+            at = at + 1;
+        } else {
+            let d = decode(s, at);
+            match d {
+                Decoded::Char { code: _, next } => {
+                    at = next;
+                }
+                Decoded::Bad => {
+                    return at;
+                }
+                Decoded::End => {
+                    return at;
+                }
+            }
+        }
+    }
+    at
 }

@@ -1,5 +1,6 @@
 pub mod Chain
 pub mod CursorLaws
+pub mod AsciiLaws
 pub mod ScanLaws
 pub mod PowerLaws
 pub mod RecordLaws

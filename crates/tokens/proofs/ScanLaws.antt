@@ -8,13 +8,13 @@ use Prim.Native.Nat.{ℕ, zero, suc, _+_, _-_, _*_, _^_, _<_, _≤_}
 use native.Mathlib.Omega.{arith}
 use native.Mathlib.Nat.{add-zero}
 use native.Mathlib.Decide.{decLt}
-use lib.Dec.{leb, eqb}
-use lib.ListN.{length, getD, List·getD-eq-default}
+use lib.Dec.{ltb, leb, eqb}
+use lib.ListN.{length, getD, drop, List·getD-eq-default}
 use lib.Seq.{getD-drop}
 use mir.Syntax.{w64}
 use mir.Val.{Fits}
 use borrow.Author.Needs.{needs}
-use borrow.Author.Tests.{leb-true, eqb-true, lt-ltb, le-ltb, eq-eqb, ne-eqb, not-true, not-false}
+use borrow.Author.Tests.{ltb-true, ltb-false, leb-true, eqb-true, eqb-false, lt-ltb, le-ltb, eq-eqb, ne-eqb, not-true, not-false}
 use Rattle.text.specs.Choice.{pick, within}
 use Rattle.text.specs.Rfc3629.{Utf8-char, Starts, Stands}
 use Rattle.text.specs.Rfc3629.Utf8-char.{utf8-1, utf8-2, utf8-3-E0, utf8-3-E1, utf8-3-ED, utf8-3-EE, utf8-4-F0, utf8-4-F1, utf8-4-F4}
@@ -26,7 +26,9 @@ use Rattle.text.specs.declared.utf8.Decoded.the-variants.{Char, Bad, End}
 use Rattle.text.specs.declared.place.Place.{Place}
 use Rattle.text.specs.declared.place.Step.{Step}
 use Rattle.text.specs.declared.place.Step.the-variants.{Next, Stop}
-use Rattle.text.proofs.Tests.{picked}
+use Rattle.text.specs.White.{isWhite, whiteSpace, among}
+use Rattle.text.proofs.Tests.{picked, over-range}
+use Rattle.text.proofs.WhiteLaws.{none-above}
 use Rattle.text.proofs.Utf8Rules.{stands}
 use Rattle.text.proofs.Utf8Laws.{decode-on}
 use Rattle.text.proofs.CharLaws.{char-inside, chars-char, chars-bad, chars-end}
@@ -144,6 +146,11 @@ lead-high : {b c : ℕ} → 0x80 ≤ b → Lead b c → 0x80 ≤ c
 lead-high h (ascii e) = omega arith
 lead-high h (wide k) = k
 
+-- an ASCII character that the byte is not
+lead-other : {b c k : ℕ} → (b ≡ k → ⊥) → k < 0x80 → Lead b c → c ≡ k → ⊥
+lead-other h l (ascii e) m = h (sym e ∙ m)
+lead-other h l (wide n) m = omega arith
+
 Leads : List ℕ → ℕ → Decoded → Type 0
 Leads s at (Char c n) = Lead (getD s at 0) c
 Leads s at Bad = Unit {0}
@@ -211,7 +218,7 @@ module _ (s : List ℕ) (at : ℕ) {b : ℕ} (e : b ≡ getD s at 0x80) where
     unfolding sized sequenceLength
     byte-decoded = decode-on s at inside ∙ rw (any-default s at inside, ← e, lt-ltb b 0x80 k)
 
-    -- the step behind it: to the place that after gives, in the same line, or behind LF in the next one
+    -- the step behind it: to the place that after gives, and in the same line where it is not LF
     byte-any : (line column : ℕ) → Stepped s (place at line column) b (after (place at line column) (record { code = b; next = at + 1 }))
     byte-any line column = decoded-step s (place at line column) b (at + 1) byte-decoded refl
 
@@ -220,10 +227,11 @@ module _ (s : List ℕ) (at : ℕ) {b : ℕ} (e : b ≡ getD s at 0x80) where
     unfolding after
     byte-step line column n u = decoded-step s (place at line column) b (at + 1) byte-decoded (rw (ne-eqb b 0x0A n, u))
 
-    line-step : (line column : ℕ) {up : ℕ} → b ≡ 0x0A → up ≡ counted (line + 1) →
-        Stepped s (place at line column) b (place (at + 1) up 1)
-    unfolding after
-    line-step line column n u = decoded-step s (place at line column) b (at + 1) byte-decoded (rw (eq-eqb b 0x0A n, u))
+    -- what bump answers there
+    pub byte-seen : (p : Place) {q : Place} → q ≡ after p (record { code = b; next = at + 1 }) →
+        Next b q ≡ stepOf p (chars s at)
+    unfolding stepOf
+    byte-seen p u = rw (chars-char s at b (at + 1) byte-decoded, u)
 
     pub less-bytes : length s - (at + 1) < length s - at
     less-bytes =
@@ -336,6 +344,37 @@ words-printed =
     (either-printed isAlpha (λ c. eqb c 0x5F) letters-printed (one-printed 0x5F (omega arith) (omega arith)))
     digits-printed
 
+-- ---- a column that is counted from the offset first on
+
+counted-by : (c n : ℕ) → Dec (c + n < 4294967295) → counted (c + (n + 1)) ≡ counted (counted (c + n) + 1)
+unfolding counted
+counted-by c n (yes h) =
+    let m : c + (n + 1) ≡ c + n + 1 = omega arith in
+    rw (lt-ltb (c + n) 4294967295 h, m)
+counted-by c n (no h) = rw (le-ltb (c + n) 4294967295 (omega arith), le-ltb (c + (n + 1)) 4294967295 (omega arith))
+
+counted-on : (c n : ℕ) → counted (c + (n + 1)) ≡ counted (counted (c + n) + 1)
+counted-on c n = counted-by c n (decLt (c + n) 4294967295)
+
+counted-none-by : (c n : ℕ) → c ≤ 4294967295 → Dec (c < 4294967295) → counted (c + (n - n)) ≡ c
+unfolding counted
+counted-none-by c n h (yes k) =
+    let m : c + (n - n) ≡ c = omega arith in
+    rw (m, lt-ltb c 4294967295 k)
+counted-none-by c n h (no k) =
+    let m : c ≡ 4294967295 = omega arith in
+    let z : 4294967295 ≤ c + (n - n) = omega arith in
+    rw (le-ltb (c + (n - n)) 4294967295 z) (sym m)
+
+-- a column that a word of 32 bits holds
+counted-none : (c n : ℕ) → c ≤ 4294967295 → counted (c + (n - n)) ≡ c
+counted-none c n h = counted-none-by c n h (decLt c 4294967295)
+
+pub counted-later : (c first at : ℕ) → first ≤ at → counted (c + (at + 1 - first)) ≡ counted (counted (c + (at - first)) + 1)
+counted-later c first at h =
+    let n : at + 1 - first ≡ (at - first) + 1 = omega arith in
+    rw n (counted-on c (at - first))
+
 -- ---- the loops: i, the scan from here ends as the scan from the start does
 
 -- the loops over a class
@@ -343,6 +382,9 @@ module _ (class : ℕ → Bool) (s : List ℕ) (at line column : ℕ) {start : P
     (printed : Printed class) {b : ℕ} (e : b ≡ getD s at 0x80) {r : Bool} (f : r ≡ class b) where
   pub passed-end : not r ≡ true → place at line column ≡ start
   passed-end h = passed-ended (ended class printed s at e f line column h) ∙ i
+
+  pub passed-last : {up : ℕ} → not r ≡ true → up ≡ column → place at line up ≡ start
+  passed-last h u = rw u (passed-end h)
 
   pub passed-on : {up : ℕ} → not r ≡ false → up ≡ counted (column + 1) →
       passed class (place (at + 1) line up) (chars s (at + 1)) ≡ start
@@ -361,19 +403,156 @@ module _ (s : List ℕ) (at line column v : ℕ) {start : Run} (i : digits v (pl
         digits (v * 10 + d) (place (at + 1) line up) (chars s (at + 1)) ≡ start
     digits-on k u = digits-step (byte-in isDigit digits-printed s at e f h line column u) v f h w k ∙ i
 
--- over white space and comments, at a byte below 0x80
-module _ (s : List ℕ) (at line column mode : ℕ) {start : Place} (i : trivia mode (place at line column) (chars s at) ≡ start) {b : ℕ}
-    (e : b ≡ getD s at 0x80) (k : b < 0x80) {m : ℕ} (f : m ≡ triviaMode mode b) where
-  pub trivia-end : m ≡ 2 → place at line column ≡ start
-  trivia-end h = trivia-here (byte-any s at e k line column) mode f h ∙ i
+-- what a character leads to, between tokens and in a comment
+space-mode : {c : ℕ} → c ≡ 0x20 → 0 ≡ triviaMode 0 c
+unfolding triviaMode isWhite whiteSpace among
+space-mode h = rw h
 
-  pub trivia-on : {up : ℕ} → (m ≡ 2 → ⊥) → (b ≡ 0x0A → ⊥) → up ≡ counted (column + 1) →
-      trivia m (place (at + 1) line up) (chars s (at + 1)) ≡ start
-  trivia-on h n u = trivia-step (byte-step s at e k line column n u) mode f h ∙ i
+hash-mode : {c : ℕ} → c ≡ 0x23 → 1 ≡ triviaMode 0 c
+unfolding triviaMode isWhite whiteSpace among
+hash-mode h = rw h
 
-  pub trivia-line : {up : ℕ} → (m ≡ 2 → ⊥) → b ≡ 0x0A → up ≡ counted (line + 1) →
-      trivia m (place (at + 1) up 1) (chars s (at + 1)) ≡ start
-  trivia-line h n u = trivia-step (line-step s at e k line column n u) mode f h ∙ i
+comment-mode : {c : ℕ} → (c ≡ 0x0A → ⊥) → 1 ≡ triviaMode 1 c
+unfolding triviaMode
+comment-mode {c} h = rw (ne-eqb c 0x0A h)
+
+line-modes : {c : ℕ} → c ≡ 0x0A → (0 ≡ triviaMode 0 c) × (0 ≡ triviaMode 1 c)
+unfolding triviaMode isWhite whiteSpace among
+line-modes h = (rw h, rw h)
+
+white-mode : (c : ℕ) {r : Bool} → r ≡ isWhite c → not r ≡ false → 0 ≡ triviaMode 0 c
+unfolding triviaMode
+white-mode c {r} e h = rw (← e, not-false r h)
+
+token-mode : (c : ℕ) {r : Bool} → r ≡ isWhite c → not r ≡ true → (c ≡ 0x23 → ⊥) → 2 ≡ triviaMode 0 c
+unfolding triviaMode
+token-mode c {r} e h n = rw (← e, not-true r h, ne-eqb c 0x23 n)
+
+-- no ASCII character above # is white space
+not-white : {c : ℕ} → 0x24 ≤ c → c < 0x80 → false ≡ isWhite c
+unfolding isWhite whiteSpace among
+not-white {c} h k =
+    over-range 0x9 0xD c true (among (drop 1 whiteSpace) c) (omega arith)
+    (over-range 0x20 0x20 c true (among (drop 2 whiteSpace) c) (omega arith) (none-above c (drop 2 whiteSpace)
+    (omega arith, (omega arith, (omega arith, (omega arith, (omega arith, (omega arith, (omega arith, (omega arith, (omega arith, tt)))))))))))
+
+-- the plain bytes of a comment, and the bytes of most tokens' first characters, by what a callee answered
+plain : {b : ℕ} {r : Bool} → r ≡ pick (eqb b 0x0A) false (ltb b 0x80) → not r ≡ false → (b < 0x80) × (b ≡ 0x0A → ⊥)
+plain {b} {r} e h =
+    picked (λ (t : Bool). t ≡ true → (b < 0x80) × (b ≡ 0x0A → ⊥)) (eqb b 0x0A) (λ m n. absurd (false≢true n))
+    (λ m n. (ltb-true b 0x80 n, eqb-false b 0x0A m)) (sym e ∙ not-false r h)
+
+token-start : {b : ℕ} {r : Bool} → r ≡ pick (ltb b 0x24) false (ltb b 0x80) → r ≡ true → (0x24 ≤ b) × (b < 0x80)
+token-start {b} {r} e h =
+    picked (λ (t : Bool). t ≡ true → (0x24 ≤ b) × (b < 0x80)) (ltb b 0x24) (λ m n. absurd (false≢true n))
+    (λ m n. (ltb-false b 0x24 m, ltb-true b 0x80 n)) (sym e ∙ h)
+
+-- where such a loop begins, no byte has been passed
+pub passed-begin : (class : ℕ → Bool) (s : List ℕ) (at line column : ℕ) → column ≤ 4294967295 →
+    passed class (place at line (counted (column + (at - at)))) (chars s at) ≡ passed class (place at line column) (chars s at)
+passed-begin class s at line column h = rw (counted-none column at h)
+
+pub plain-begin : (s : List ℕ) (at line column : ℕ) → column ≤ 4294967295 →
+    trivia 1 (place at line (counted (column + (at - at)))) (chars s at) ≡ trivia 1 (place at line column) (chars s at)
+plain-begin s at line column h = rw (counted-none column at h)
+
+pub plain-stop : (s : List ℕ) (first at line column : ℕ) {start : Place} {up : ℕ} →
+    trivia 1 (place at line (counted (column + (at - first)))) (chars s at) ≡ start → up ≡ counted (column + (at - first)) →
+    trivia 1 (place at line up) (chars s at) ≡ start
+plain-stop s first at line column i u = rw u i
+
+-- over the plain bytes of a comment that begin at the offset first; the column is counted from there
+module _ (s : List ℕ) (first at line column : ℕ) {start : Place} (l : first ≤ at)
+    (i : trivia 1 (place at line (counted (column + (at - first)))) (chars s at) ≡ start) {b : ℕ} (e : b ≡ getD s at 0x80) {r : Bool}
+    (f : r ≡ pick (eqb b 0x0A) false (ltb b 0x80)) (h : not r ≡ false) where
+  pub plain-on : trivia 1 (place (at + 1) line (counted (column + (at + 1 - first)))) (chars s (at + 1)) ≡ start
+  plain-on =
+      let k = plain f h in
+      trivia-step (byte-step s at e (k .0) line (counted (column + (at - first))) (k .1) (counted-later column first at l)) 1 (comment-mode (k .1))
+      (λ x. omega arith) ∙ i
+
+  pub plain-less : length s - (at + 1) < length s - at
+  plain-less = less-bytes s at e (plain f h .0)
+
+  pub plain-fits : length s < 2 ^ 64 → Fits w64 (at + 1)
+  plain-fits = next-fits s at e (plain f h .0)
+
+-- over a comment: from p over its plain bytes to q
+module _ (s : List ℕ) (p q : Place) {start : Place} (i : trivia 1 p (chars s (p .at)) ≡ start)
+    (m : trivia 1 q (chars s (q .at)) ≡ trivia 1 p (chars s (p .at))) where
+  pub comment-line : {b : ℕ} → b ≡ getD s (q .at) 0x80 → b ≡ 0x0A → trivia 0 q (chars s (q .at)) ≡ start
+  comment-line e h =
+      let t = byte-any s (q .at) e (omega arith) (q .line) (q .column) in
+      let k = line-modes h in
+      sym (trivia-step t 0 (k .0) (λ x. omega arith)) ∙ trivia-step t 1 (k .1) (λ x. omega arith) ∙ m ∙ i
+
+  module _ {a : Step} (g : a ≡ stepOf q (chars s (q .at))) where
+    pub comment-stop : a ≡ Stop → trivia 0 q (chars s (q .at)) ≡ start
+    comment-stop h =
+        let t = step-stop s q (sym g ∙ h) in
+        sym (trivia-stop t 0) ∙ trivia-stop t 1 ∙ m ∙ i
+
+    pub comment-on : {code : ℕ} {next : Place} {b : ℕ} → a ≡ Next code next → b ≡ getD s (q .at) 0x80 → (b ≡ 0x0A → ⊥) →
+        trivia 1 next (chars s (next .at)) ≡ start
+    comment-on {code} {next} n e h =
+        let t = step-next s q code next (sym g ∙ n) in
+        trivia-step t 1 (comment-mode (lead-other h (omega arith) (step-lead s (q .at) e t))) (λ x. omega arith) ∙ m ∙ i
+
+-- its loop goes on behind p, and less of the text is left
+module _ (s : List ℕ) (p q : Place) {a : Step} {code : ℕ} {next : Place} (l : p .at ≤ q .at) (g : a ≡ stepOf q (chars s (q .at)))
+    (n : a ≡ Next code next) where
+  pub comment-behind : {first : ℕ} → first ≤ p .at → first ≤ next .at
+  comment-behind h =
+      let t = step-next s q code next (sym g ∙ n) in
+      omega arith
+
+  pub comment-less : length s - next .at < length s - p .at
+  comment-less =
+      let t = step-next s q code next (sym g ∙ n) in
+      omega arith
+
+-- at a byte that the code has compared with an ASCII character n
+module _ (s : List ℕ) (at : ℕ) {b n : ℕ} (e : b ≡ getD s at 0x80) (h : b ≡ n) (k : n < 0x80) where
+  pub same-fits : length s < 2 ^ 64 → Fits w64 (at + 1)
+  same-fits = next-fits s at e (omega arith)
+
+  pub same-less : {next : ℕ} → at + 1 ≤ next → length s - next < length s - at
+  same-less l =
+      let z = inside s at e (omega arith) in
+      omega arith
+
+pub place-less : (s : List ℕ) (at line column : ℕ) {a : Step} {code : ℕ} {next : Place} → a ≡ stepOf (place at line column) (chars s at) →
+    a ≡ Next code next → length s - next .at < length s - at
+place-less s at line column g n = less-left s (place at line column) g n
+
+-- over white space and comments
+module _ (s : List ℕ) (at line column : ℕ) {start : Place} (i : trivia 0 (place at line column) (chars s at) ≡ start) {b : ℕ}
+    (e : b ≡ getD s at 0x80) where
+  pub trivia-end : {r : Bool} → r ≡ pick (ltb b 0x24) false (ltb b 0x80) → r ≡ true → place at line column ≡ start
+  trivia-end f h =
+      let k = token-start f h in
+      trivia-here (byte-any s at e (k .1) line column) 0 (token-mode b (not-white (k .0) (k .1)) refl (λ x. omega arith)) refl ∙ i
+
+  pub trivia-on : {up : ℕ} → b ≡ 0x20 → up ≡ counted (column + 1) → trivia 0 (place (at + 1) line up) (chars s (at + 1)) ≡ start
+  trivia-on h u = trivia-step (byte-step s at e (omega arith) line column (λ x. omega arith) u) 0 (space-mode h) (λ x. omega arith) ∙ i
+
+  pub trivia-white : {a : Step} {code : ℕ} {next : Place} {r : Bool} → a ≡ stepOf (place at line column) (chars s at) →
+      a ≡ Next code next → r ≡ isWhite code → not r ≡ false → trivia 0 next (chars s (next .at)) ≡ start
+  trivia-white {a} {code} {next} g n f h =
+      trivia-step (step-next s (place at line column) code next (sym g ∙ n)) 0 (white-mode code f h) (λ x. omega arith) ∙ i
+
+  pub trivia-token : {a : Step} {code : ℕ} {next : Place} {r : Bool} → a ≡ stepOf (place at line column) (chars s at) →
+      a ≡ Next code next → r ≡ isWhite code → not r ≡ true → (b ≡ 0x23 → ⊥) → place at line column ≡ start
+  trivia-token {a} {code} {next} g n f h k =
+      let t = step-next s (place at line column) code next (sym g ∙ n) in
+      trivia-here t 0 (token-mode code f h (lead-other k (omega arith) (step-lead s at e t))) refl ∙ i
+
+  pub trivia-none : {a : Step} → a ≡ stepOf (place at line column) (chars s at) → a ≡ Stop → place at line column ≡ start
+  trivia-none g n = trivia-stop (step-stop s (place at line column) (sym g ∙ n)) 0 ∙ i
+
+  pub trivia-comment : {up : ℕ} (q : Place) → b ≡ 0x23 → up ≡ counted (column + 1) →
+      trivia 0 q (chars s (q .at)) ≡ trivia 1 (place (at + 1) line up) (chars s (at + 1)) → trivia 0 q (chars s (q .at)) ≡ start
+  trivia-comment q h u c = c ∙ trivia-step (byte-step s at e (omega arith) line column (λ x. omega arith) u) 0 (hash-mode h) (λ x. omega arith) ∙ i
 
 -- over a string
 module _ (s : List ℕ) (at line column : ℕ) {b : ℕ} (e : b ≡ getD s at 0x80) where
@@ -409,7 +588,8 @@ pub ruleset scans = (
   passed-on,
   trivia-end,
   trivia-on,
-  trivia-line,
+  plain-less,
+  plain-fits,
   quoted-close,
   quoted-on,
   digits-end,

@@ -1,4 +1,4 @@
-// Classes of ASCII characters.
+// Classes of ASCII characters. Small letters are asked for first: they are the most frequent.
 ghost use mathlib.Core.Path.{_≡_};
 ghost use Rattle.tokens.specs.Ascii.{isDigit, isAlpha, isWordStart, isWordPart};
 
@@ -14,16 +14,13 @@ pub fn is_digit(code: u32) -> bool
 pub fn is_alpha(code: u32) -> bool
     ensures { λ r. ⌜ r ≡ isAlpha code ⌝ }
 {
+    if 0x61 <= code {
+        return code <= 0x7A;
+    }
     if code < 0x41 {
         return false;
     }
-    if code <= 0x5A {
-        return true;
-    }
-    if code < 0x61 {
-        return false;
-    }
-    code <= 0x7A
+    code <= 0x5A
 }
 
 pub fn is_word_start(code: u32) -> bool
@@ -38,8 +35,14 @@ pub fn is_word_start(code: u32) -> bool
 pub fn is_word_part(code: u32) -> bool
     ensures { λ r. ⌜ r ≡ isWordPart code ⌝ }
 {
-    if is_word_start(code) {
+    if 0x61 <= code {
+        return code <= 0x7A;
+    }
+    if code < 0x41 {
+        return is_digit(code);
+    }
+    if code <= 0x5A {
         return true;
     }
-    is_digit(code)
+    code == 0x5F
 }

@@ -132,7 +132,7 @@ fn single_punct(code: u32, p: Place, next: Place) -> Lexeme
 fn punct_token(s: &[u8], code: u32, p: Place, next: Place) -> Lexeme
     ensures { λ r. ⌜ r ≡ punct code p next (look (now (s .entry)) next) ⌝ }
 {
-    let step = next.bump(s);
+    let step = scan::peek(s, next);
     match step {
         Step::Next {
             code: second,
@@ -262,7 +262,7 @@ fn fraction_by(s: &[u8], p: Place, whole: u32, frac: u32, f: Place, end: Place) 
     ensures { λ r. ⌜ r ≡ fractionAt (now (s .entry)) p whole frac f end (look (now (s .entry)) end) ⌝ }
 {
     let count = digit_count(f, end);
-    let step = end.bump(s);
+    let step = scan::peek(s, end);
     match step {
         Step::Next { code, place: _ } => {
             if ascii::is_alpha(code) {
@@ -288,7 +288,7 @@ fn fraction_token(s: &[u8], p: Place, whole: u32, f: Place) -> Lexeme
 fn point_token(s: &[u8], p: Place, whole: u32, q: Place, f: Place) -> Lexeme
     ensures { λ r. ⌜ r ≡ point (now (s .entry)) p whole q f (look (now (s .entry)) f) ⌝ }
 {
-    let step = f.bump(s);
+    let step = scan::peek(s, f);
     match step {
         Step::Next { code, place: _ } => {
             if ascii::is_digit(code) {
@@ -304,7 +304,7 @@ fn point_token(s: &[u8], p: Place, whole: u32, q: Place, f: Place) -> Lexeme
 fn number_by(s: &[u8], p: Place, value: u32, q: Place) -> Lexeme
     ensures { λ r. ⌜ r ≡ numberAt (now (s .entry)) p value q (look (now (s .entry)) q) ⌝ }
 {
-    let step = q.bump(s);
+    let step = scan::peek(s, q);
     match step {
         Step::Next { code, place } => {
             if code == 0x3A {
@@ -376,7 +376,7 @@ fn lex_all(s: &[u8], words: &mut [u32]) -> Lexed
     let mut count: usize = 0;
     loop {
         let q = scan::skip_trivia(s, p);
-        let step = q.bump(s);
+        let step = scan::peek(s, q);
         match step {
             Step::Stop => {
                 return Lexed::Tokens {

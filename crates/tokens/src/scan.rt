@@ -5,11 +5,15 @@ use text::place::Place;
 use text::place::Step;
 use text::place::count_up;
 ghost use mathlib.Core.Path.{_≡_};
+ghost use mathlib.Core.Bool.{false};
+ghost use lib.Dec.{ltb, eqb};
 ghost use lib.ListN.{getD};
-ghost use Prim.Native.Nat.{_*_, _+_, _-_};
+ghost use Prim.Native.Nat.{_*_, _+_, _-_, _≤_};
+ghost use Rattle.text.specs.Choice.{pick};
 ghost use Rattle.text.specs.Utf8.{chars};
+ghost use Rattle.text.specs.Place.{counted, stepOf};
 ghost use Rattle.tokens.specs.Ascii.{isAlpha, isWordPart};
-ghost use Rattle.tokens.specs.Scan.{passed, triviaMode, trivia, quoted, digits};
+ghost use Rattle.tokens.specs.Scan.{passed, trivia, quoted, digits};
 
 fn wide(b: u8) -> u32
     ensures { λ r. ⌜ r ≡ b ⌝ }
@@ -24,19 +28,35 @@ fn octet(s: &[u8], at: usize) -> u32
     if at < s.len() { wide(s[at]) } else { 0x80 }
 }
 
-// Behind the letters, digits and _ that stand in a row.
+// So many more, up to the greatest number: a loop that counts the offset only has its column by one addition.
+fn count_on(n: u32, more: usize) -> u32
+    ensures { λ r. ⌜ r ≡ counted (n + more) ⌝ }
+{
+    let left = (4294967295 - n) as usize;
+    if more < left {
+        n + more as u32
+    } else {
+        4294967295
+    }
+}
+
+// Behind the letters, digits and _ that stand in a row. The loop counts the offset only.
 pub fn word_end(s: &[u8], from: Place) -> Place
     ensures { λ r. ⌜ r ≡ passed isWordPart from (chars (now (s .entry)) (from .at)) ⌝ }
 {
+    let start = from.at;
     let line = from.line;
-    let mut at = from.at;
-    let mut column = from.column;
+    let column = from.column;
+    let mut at = start;
     loop {
         if !ascii::is_word_part(octet(s, at)) {
-            return Place { at, line, column };
+            return Place {
+                at,
+                line,
+                column: count_on(column, at - start),
+            };
         }
         at = at + 1;
-        column = count_up(column);
     }
 }
 
@@ -56,21 +76,81 @@ pub fn letters_end(s: &[u8], from: Place) -> Place
     }
 }
 
-// What a character is, between tokens (mode 0) and in a comment (mode 1): it stays between them, 0, it is in a comment, 1, or a
-// token begins with it, 2.
-fn trivia_mode(mode: u32, code: u32) -> u32
-    ensures { λ r. ⌜ r ≡ triviaMode mode code ⌝ }
+// The character at a place and the place behind it, as bump answers. A byte below 0x80 is not decoded.
+pub fn peek(s: &[u8], p: Place) -> Step
+    ensures { λ r. ⌜ r ≡ stepOf p (chars (now (s .entry)) (p .at)) ⌝ }
 {
-    if mode == 1 {
-        if code == 0xA {
-            return 0;
+    let at = p.at;
+    let b = octet(s, at);
+    if b < 0x80 {
+        return Step::Next {
+            code: b,
+            place: p.after(b, at + 1),
+        };
+    }
+    p.bump(s)
+}
+
+// Is this byte a character by itself, and not LF?
+fn is_plain(b: u32) -> bool
+    ensures { λ r. ⌜ r ≡ pick (eqb b 0x0A) false (ltb b 0x80) ⌝ }
+{
+    if b == 0xA {
+        return false;
+    }
+    b < 0x80
+}
+
+// In a comment, behind the plain bytes that stand in a row: the comment goes on from there. The loop counts the offset only.
+fn plain_end(s: &[u8], from: Place) -> Place
+    ensures { λ r. ⌜ (trivia 1 r (chars (now (s .entry)) (r .at)) ≡ trivia 1 from (chars (now (s .entry)) (from .at))) × (from .at ≤ r .at) ⌝ }
+{
+    let start = from.at;
+    let line = from.line;
+    let column = from.column;
+    let mut at = start;
+    loop {
+        if !is_plain(octet(s, at)) {
+            return Place {
+                at,
+                line,
+                column: count_on(column, at - start),
+            };
         }
-        return 1;
+        at = at + 1;
     }
-    if text::white::is_white(code) {
-        return 0;
+}
+
+// Where a comment ends whose # stands before a place: at its LF, which is white space, or where no character begins.
+fn comment_end(s: &[u8], from: Place) -> Place
+    ensures { λ r. ⌜ (trivia 0 r (chars (now (s .entry)) (r .at)) ≡ trivia 1 from (chars (now (s .entry)) (from .at))) × (from .at ≤ r .at) ⌝ }
+{
+    let mut p = from;
+    loop {
+        let q = plain_end(s, p);
+        if octet(s, q.at) == 0xA {
+            return q;
+        }
+        let step = q.bump(s);
+        match step {
+            Step::Next { code: _, place } => {
+                p = place;
+            }
+            Step::Stop => {
+                return q;
+            }
+        }
     }
-    if code == 0x23 { 1 } else { 2 }
+}
+
+// Is this an ASCII character above #? None of these is white space or opens a comment, and most tokens begin with one.
+fn is_token_start(b: u32) -> bool
+    ensures { λ r. ⌜ r ≡ pick (ltb b 0x24) false (ltb b 0x80) ⌝ }
+{
+    if b < 0x24 {
+        return false;
+    }
+    b < 0x80
 }
 
 // Behind white space and comments.
@@ -80,26 +160,25 @@ pub fn skip_trivia(s: &[u8], from: Place) -> Place
     let mut at = from.at;
     let mut line = from.line;
     let mut column = from.column;
-    let mut mode: u32 = 0;
     loop {
         let b = octet(s, at);
-        if b < 0x80 {
-            mode = trivia_mode(mode, b);
-            if mode == 2 {
-                return Place { at, line, column };
-            }
+        if is_token_start(b) {
+            return Place { at, line, column };
+        }
+        if b == 0x20 {
             at = at + 1;
-            if b == 0xA {
-                line = count_up(line);
-                column = 1;
-            } else {
-                column = count_up(column);
-            }
+            column = count_up(column);
+        } else if b == 0x23 {
+            at = at + 1;
+            column = count_up(column);
+            let end = comment_end(s, Place { at, line, column });
+            at = end.at;
+            line = end.line;
+            column = end.column;
         } else {
-            match (Place { at, line, column }).bump(s) {
+            match peek(s, Place { at, line, column }) {
                 Step::Next { code, place } => {
-                    mode = trivia_mode(mode, code);
-                    if mode == 2 {
+                    if !text::white::is_white(code) {
                         return Place { at, line, column };
                     }
                     at = place.at;

@@ -1,0 +1,105 @@
+// The whole diagnostic of a refusal: its place, what is wrong, the line, what stands and what belongs there, and a way out.
+use crate::expected;
+use crate::fault;
+use crate::fault::Fault;
+use crate::flat;
+use crate::help;
+use crate::out;
+use crate::reading;
+use crate::say;
+use crate::sheet_fault;
+use crate::source;
+use crate::stands;
+use crate::title;
+
+// The count of the text's tokens; 0 if it cannot be cut into tokens.
+fn token_count(text: &[u8], words: &mut [u32]) -> usize {
+    let mut answer = [0u32; 4];
+    if reading::lex(text, words, &mut answer) == 0 {
+        return flat::detail(&answer) as usize;
+    }
+    0
+}
+
+// File, line, column, number and what is wrong.
+fn head(text: &[u8], words: &[u32], name: &[u8], f: Fault) {
+    out::shown(name);
+    place(f);
+    title::show(text, words, f);
+    out::line_end();
+}
+
+fn place(f: Fault) {
+    let row = [f.number, f.line, f.column];
+    if f.line == 0 {
+        say::numbers(&row, b": refusal %n0: ");
+        return;
+    }
+    say::numbers(&row, b":%n1:%n2: refusal %n0: ");
+}
+
+// The line of the place, and what stands there.
+fn line(text: &[u8], words: &[u32], f: Fault) {
+    if f.line == 0 {
+        return;
+    }
+    let l = source::line_of(text, f.line);
+    source::marked(l, f.line, f.column);
+    stands::show(text, words, f);
+    out::line_end();
+}
+
+// Is the refusal one for which it helps to say what belongs there?
+fn is_asked(number: u32) -> bool {
+    number == 20 || number == 21 || number == 38 || number == 40 || number == 41
+}
+
+fn belonging(text: &[u8], sheet: &[u8], words: &[u32], f: Fault) {
+    if is_asked(f.number) {
+        expected::show(text, sheet, words, f);
+    }
+}
+
+fn way_out(text: &[u8], sheet: &[u8], words: &[u32], f: Fault) {
+    source::margin(f.line, b'=');
+    out::bytes(b" help: ");
+    help::show(text, sheet, words, f);
+    out::line_end();
+}
+
+// The diagnostic of a fault in the rule text, up to the last line of the output.
+fn of_text(text: &[u8], sheet: &[u8], words: &[u32], name: &[u8], f: Fault) {
+    head(text, words, name, f);
+    line(text, words, f);
+    belonging(text, sheet, words, f);
+    way_out(text, sheet, words, f);
+}
+
+// The last line of the output.
+fn verdict(answer: &[u32]) {
+    if flat::line(answer) == 0 {
+        say::numbers(answer, b"refused: %n0\n");
+        return;
+    }
+    say::numbers(answer, b"refused: %n0 at %n1:%n2\n");
+}
+
+// The diagnostic of what an answer refuses. The names are those of the files.
+pub fn show(
+    text: &[u8],
+    sheet: &[u8],
+    words: &mut [u32],
+    answer: &[u32],
+    text_name: &[u8],
+    sheet_name: &[u8],
+) {
+    if flat::number(answer) == 3 {
+        sheet_fault::show(sheet, sheet_name, flat::line(answer));
+        verdict(answer);
+        return;
+    }
+    let count = token_count(text, words);
+    let f = fault::of(text, words, answer, count);
+    of_text(text, sheet, words, text_name, f);
+    verdict(answer);
+}

@@ -1,0 +1,154 @@
+// What may stand at a place of a rule. The reader itself is asked: the text before the place with a candidate behind it is read anew,
+// and the candidate belongs there unless it is refused itself.
+use crate::fault::Fault;
+use crate::flat;
+use crate::items;
+use crate::marks;
+use crate::near;
+use crate::out;
+use crate::reading;
+use crate::source;
+use crate::split;
+use crate::trial;
+
+// Is a candidate, which begins the line `line`, taken by the reader? It is if it is not refused itself, or only for its value (22, 25, 35, 36).
+// Refusals below 20 say nothing of it. A 30 says that the candidate needs one instance where there is a group; only `)` just meets it.
+fn is_taken(answer: &[u32], line: u32, candidate: &[u8]) -> bool {
+    let number = flat::number(answer);
+    if number == 0 {
+        return true;
+    }
+    if number < 20 {
+        return false;
+    }
+    if number == 30 {
+        return text::part::same(candidate, b")");
+    }
+    if flat::line(answer) != line {
+        return true;
+    }
+    if candidate.len() < flat::column(answer) as usize {
+        return true;
+    }
+    is_value(number)
+}
+
+fn is_value(number: u32) -> bool {
+    number == 22 || number == 25 || number == 35 || number == 36
+}
+
+// Puts a candidate behind the text before the place, on a line of its own, so that it joins no word and no comment. A comparison follows it: only
+// then does the reader judge a lamp's property in a condition.
+fn put(trial: &mut [u8], start: usize, candidate: &[u8]) -> usize {
+    let at = trial::byte(trial, start, b'\n');
+    let at = trial::bytes(trial, at, candidate);
+    trial::bytes(trial, at, b" == 1")
+}
+
+// Asks the reader for a candidate. `trial` has the text before the place up to `start`.
+fn belongs(
+    trial: &mut [u8],
+    start: usize,
+    candidate: &[u8],
+    sheet: &[u8],
+    words: &mut [u32],
+    line: u32,
+) -> bool {
+    if candidate.len() == 0 {
+        return false;
+    }
+    let mut answer = [0u32; 108];
+    let at = put(trial, start, candidate);
+    reading::read(text::part::part(trial, 0, at), sheet, words, &mut answer);
+    is_taken(&answer, text::place::count_up(line), candidate)
+}
+
+// May the text end behind its first bytes?
+fn may_end(trial: &[u8], start: usize, sheet: &[u8], words: &mut [u32]) -> bool {
+    let mut answer = [0u32; 108];
+    reading::read(text::part::part(trial, 0, start), sheet, words, &mut answer) == 0
+}
+
+// Marks the candidates that belong at the place, by their index in the list.
+fn mark(
+    list: &[u8],
+    trial: &mut [u8],
+    start: usize,
+    sheet: &[u8],
+    words: &mut [u32],
+    line: u32,
+    marks: &mut [u8],
+) {
+    let mut k = 0;
+    while k < 127 {
+        let is_in = belongs(trial, start, split::word(list, k), sheet, words, line);
+        marks::set(marks, k, is_in);
+        k += 1;
+    }
+}
+
+// The index of a marked candidate that nearly is the word; 128 where there is none.
+fn near_item(list: &[u8], marks: &[u8], word: &[u8]) -> usize {
+    let mut k = 4;
+    while k < 127 {
+        if marks::has(marks, k) && near::is_near(split::word(list, k), word) {
+            return k;
+        }
+        k += 1;
+    }
+    128
+}
+
+// If a word stands there that nearly is one of the candidates: that one.
+fn suggestion(list: &[u8], marks: &[u8], word: &[u8], line: u32) {
+    let k = near_item(list, marks, word);
+    if k == 128 {
+        return;
+    }
+    source::margin(line, b'=');
+    out::bytes(b" help: did you mean ");
+    out::backquoted(split::word(list, k));
+    out::bytes(b"?\n");
+}
+
+// The bytes of the token at the place; none at the end of the text.
+fn word_at<'a, 'b>(text: &'a [u8], words: &'b [u32], f: Fault) -> &'a [u8] {
+    if f.token < f.count {
+        return tokens::record::bytes(text, words, f.token);
+    }
+    &text[..0]
+}
+
+// The line that says what may stand at the place, and perhaps one that suggests a word; nothing where the reader could not be asked.
+fn lines(list: &[u8], marks: &[u8], word: &[u8], line: u32) {
+    if marks::count(marks) == 0 {
+        return;
+    }
+    source::margin(line, b'=');
+    out::bytes(b" expected: ");
+    items::words(list, marks);
+    out::line_end();
+    suggestion(list, marks, word, line);
+}
+
+// Asks the reader for each candidate and for the end of the text.
+pub fn show(text: &[u8], sheet: &[u8], words: &[u32], f: Fault) {
+    let list =
+        b"\"x\" 1 12:00 1s when if and timer rule controller http every at scene device group hcl lamp input last_fired sun time var event sunrise sunset fires fails starts becomes active trigger recalled goes offline comes online any_on all_off override clears for broadcast turns on off crosses above below power cycled manual config changed changes is press release short_press double_press long_press_start long_press_repeat long_press_stop button_free button_stuck movement no_movement any_event occupied vacant running enabled overridden older than up down in level cct is_on last_level member_count light position last_event_age now hour minute weekday rise set is_up value instance option button absolute occupancy dev= inst= group= type= adapter= data= ( ) , . .. = == != >= <= > < + -";
+    let mut trial = [0u8; 20000];
+    let mut trial_words = [0u32; 6144];
+    let mut marks = [0u8; 128];
+    let start = trial::bytes(&mut trial, 0, text::part::part(text, 0, f.at));
+    mark(
+        list,
+        &mut trial,
+        start,
+        sheet,
+        &mut trial_words,
+        f.line,
+        &mut marks,
+    );
+    let is_in = may_end(&trial, start, sheet, &mut trial_words);
+    marks::set(&mut marks, 127, is_in);
+    lines(list, &marks, word_at(text, words, f), f.line);
+}

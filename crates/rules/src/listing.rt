@@ -1,0 +1,78 @@
+// `rules tokens RULES`: one line for each token, or one diagnostic.
+use crate::diagnose;
+use crate::files;
+use crate::flat;
+use crate::out;
+use crate::reading;
+use crate::say;
+use crate::stands;
+
+fn place(words: &[u32], i: usize) {
+    let row = [
+        tokens::record::line(words, i),
+        tokens::record::column(words, i),
+    ];
+    say::numbers(&row, b"%n0:%n1 ");
+}
+
+// Line, column, kind and what is written; of a duration also its milliseconds.
+fn token(text: &[u8], words: &[u32], i: usize) {
+    let kind = tokens::record::kind(words, i);
+    place(words, i);
+    stands::kind(kind);
+    out::byte(b' ');
+    stands::written(text, words, i);
+    if kind == 5 {
+        say::number(tokens::record::number(words, i), b" = %n0 ms\n");
+        return;
+    }
+    out::line_end();
+}
+
+fn listed(text: &[u8], words: &[u32], count: usize) {
+    let mut i = 0;
+    while i < count {
+        token(text, words, i);
+        i += 1;
+    }
+}
+
+fn accepted(text: &[u8], words: &[u32], answer: &[u32]) {
+    listed(text, words, flat::detail(answer) as usize);
+    say::numbers(answer, b"accepted: %n3 token%P3\n");
+}
+
+// Does a refusal say that a text cannot be cut into tokens?
+fn is_uncut(number: u32) -> bool {
+    number != 0 && number < 20
+}
+
+// The tokens of the text. The reader is asked for refusals 1 to 19, with the least sheet that there is: it also sees that the text is UTF-8.
+fn answered(text: &[u8], name: &[u8]) {
+    let sheet = b"primary,0";
+    let mut words = [0u32; 6144];
+    let mut answer = [0u32; 108];
+    reading::read(text, sheet, &mut words, &mut answer);
+    if is_uncut(flat::number(&answer)) {
+        diagnose::show(text, sheet, &mut words, &answer, name, name);
+        return;
+    }
+    reading::lex(text, &mut words, &mut answer);
+    accepted(text, &words, &answer);
+}
+
+fn with_file(name: &[u8]) {
+    let mut text = [0u8; 20000];
+    let loaded = files::load(name, &mut text);
+    if loaded.fault != 0 {
+        files::complain(name, loaded.fault);
+        return;
+    }
+    answered(text::part::part(&text, 0, loaded.size), name);
+}
+
+pub fn run() {
+    let mut name = [0u8; 4095];
+    let n = os::arg(2, &mut name);
+    with_file(text::part::part(&name, 0, n));
+}

@@ -1,0 +1,199 @@
+// The way out where a name or an adapter is not on the sheet as it is written.
+use crate::fault::Fault;
+use crate::items;
+use crate::items::Written;
+use crate::marks;
+use crate::out;
+use crate::reference;
+use crate::say;
+use crate::sheet;
+use crate::sheet::Question;
+use crate::split;
+
+// The adapters that the sheet lists.
+pub fn adapters(sheet: &[u8]) {
+    let mut marks = [0u8; 256];
+    sheet::mark_adapters(sheet, &mut marks, true);
+    listed(&marks);
+}
+
+fn listed(marks: &[u8]) {
+    let table = b"_ the sheet lists the adapters %M0: write one of these, or add a row to the sheet
+0 the sheet lists no adapter: add a row such as adapter,0
+1 the sheet lists only adapter %M0: write one of these, or add a row to the sheet";
+    let count = text::place::held(marks::count(marks));
+    say::set(marks, 0, split::numbered(table, count));
+}
+
+// The rows of a kind that have a name, 1, or nearly have it, 2; of an adapter, 256 for any.
+fn asked(kind: u32, adapter: u32, name: u32) -> Question {
+    Question {
+        kind,
+        adapter,
+        number: 256,
+        name,
+    }
+}
+
+// Has a row of a kind, which is not the one that was written, the name?
+fn is_other(sheet: &[u8], name: &[u8], kind: u32, other: u32) -> bool {
+    if kind == other {
+        return false;
+    }
+    sheet::has(sheet, asked(other, 256, 1), name)
+}
+
+// The first other kind of which a row has the name; 0 where there is none.
+fn other_kind(sheet: &[u8], name: &[u8], kind: u32) -> u32 {
+    if is_other(sheet, name, kind, 1) {
+        return 1;
+    }
+    if is_other(sheet, name, kind, 2) {
+        return 2;
+    }
+    if is_other(sheet, name, kind, 3) {
+        return 3;
+    }
+    if is_other(sheet, name, kind, 4) {
+        return 4;
+    }
+    0
+}
+
+// Another kind has the name.
+fn of_other_kind(other: u32) {
+    let table = b"_ -
+1 the sheet has a lamp of this name: write `lamp`, or mend the name
+2 the sheet has a group of this name: write `group`, or mend the name
+3 the sheet has a device of this name: write `device`, or mend the name
+4 the sheet has an input device of this name: write `input`, or mend the name";
+    out::entry(table, other);
+}
+
+// A row has nearly the name, unless that is empty.
+fn nearly(near: &[u8]) {
+    if near.len() == 0 {
+        out::bytes(b"mend the name, or add a row with it to the sheet");
+        return;
+    }
+    out::bytes(b"did you mean ");
+    out::quoted(near);
+    out::bytes(b"? names are compared byte for byte");
+}
+
+// 31: another kind has the name, or a row of the kind has nearly that name.
+fn unknown(sheet: &[u8], name: &[u8], kind: u32) {
+    let other = other_kind(sheet, name, kind);
+    if other != 0 {
+        of_other_kind(other);
+        return;
+    }
+    nearly(sheet::name(sheet, asked(kind, 256, 2), name));
+}
+
+// The adapters in a set, and that they have something.
+fn who_has(marks: &[u8]) {
+    if marks::count(marks) == 1 {
+        say::set(marks, 0, b"adapter %M0 has it: write ");
+        return;
+    }
+    say::set(marks, 0, b"adapters %M0 have it: write ");
+}
+
+// If an adapter in a set is not listed, so that it cannot be written yet: what to add to the sheet. The listed ones leave the set.
+fn to_list(sheet: &[u8], marks: &mut [u8]) {
+    sheet::mark_adapters(sheet, marks, false);
+    let k = marks::first(marks);
+    if 255 < k {
+        return;
+    }
+    let n = text::place::held(k);
+    say::number(
+        n,
+        b"; for adapter=%n0 the sheet needs the row adapter,%n0 first",
+    );
+}
+
+// The same for one adapter; nothing for 256.
+fn to_list_one(sheet: &[u8], adapter: u32) {
+    let mut marks = [0u8; 256];
+    marks::set(&mut marks, adapter as usize, true);
+    to_list(sheet, &mut marks);
+}
+
+// 32 and 34: the adapters whose rows have the name.
+fn elsewhere(sheet: &[u8], name: &[u8], kind: u32) {
+    let mut marks = [0u8; 256];
+    sheet::mark_rows(sheet, asked(kind, 256, 1), name, false, &mut marks);
+    who_has(&marks);
+    let w = Written {
+        kind,
+        numbers: false,
+        adapter: 256,
+    };
+    items::show(name, w, &marks, b" or ");
+    to_list(sheet, &mut marks);
+}
+
+// The adapter of the rows that have the name in scope, which are all on one.
+fn one_adapter(sheet: &[u8], name: &[u8], kind: u32, scope: u32) -> u32 {
+    if scope != 256 {
+        return scope;
+    }
+    let mut marks = [0u8; 256];
+    sheet::mark_rows(sheet, asked(kind, 256, 1), name, false, &mut marks);
+    text::place::held(marks::first(&marks))
+}
+
+// The adapter to write behind a number: none behind one on the primary adapter, or where one is written already.
+fn needed(sheet: &[u8], kind: u32, scope: u32, adapter: u32) -> u32 {
+    if kind == 4 && scope != 256 {
+        return 256;
+    }
+    if references::sheet::primary(sheet) == adapter {
+        return 256;
+    }
+    adapter
+}
+
+// The numbers in a set as references, and what to add to the sheet first.
+fn numbers(sheet: &[u8], marks: &[u8], kind: u32, adapter: u32) {
+    let w = Written {
+        kind,
+        numbers: true,
+        adapter,
+    };
+    items::show(b"", w, marks, b" or ");
+    to_list_one(sheet, adapter);
+}
+
+// 33: the numbers of the rows that have the name.
+fn several(sheet: &[u8], name: &[u8], kind: u32, scope: u32) {
+    let mut marks = [0u8; 256];
+    let adapter = one_adapter(sheet, name, kind, scope);
+    sheet::mark_rows(sheet, asked(kind, adapter, 1), name, true, &mut marks);
+    say::set(
+        &marks,
+        adapter,
+        b"adapter %n0 has it under the numbers %M0: write ",
+    );
+    let behind = needed(sheet, kind, scope, adapter);
+    numbers(sheet, &marks, kind, behind);
+    out::bytes(b"; or rename one on the sheet");
+}
+
+// The way out of 31 to 34.
+pub fn show(text: &[u8], sheet: &[u8], words: &[u32], f: Fault) {
+    let name = tokens::record::bytes(text, words, f.token);
+    let kind = reference::kind(text, words, f.token);
+    if f.number == 31 {
+        unknown(sheet, name, kind);
+        return;
+    }
+    if f.number == 33 {
+        let scope = reference::adapter(text, words, f.count, f.token);
+        several(sheet, name, kind, scope);
+        return;
+    }
+    elsewhere(sheet, name, kind);
+}

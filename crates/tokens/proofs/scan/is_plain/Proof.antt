@@ -1,0 +1,6 @@
+use Rattle.text.proofs.Tests.{steps}
+use Rattle.tokens.proofs.scan.is_plain.Statement.{statement}
+use Rattle.tokens.proofs.scan.is_plain.Tie as tie
+
+pub is-plain-spec : {M : Type 1} → statement M
+is-plain-spec = tie.close (tie.spec (λ c. search steps) (λ c. search steps))

@@ -1,0 +1,34 @@
+use mathlib.Core.Path.{_≡_}
+use Prim.Native.Nat.{_+_, _-_, _≤_}
+use lib.ListN.{length}
+use borrow.Author.Needs.{needs}
+use Rattle.text.specs.Utf8.{chars}
+use Rattle.text.specs.Place.{counted}
+use Rattle.tokens.specs.Scan.{trivia}
+use Rattle.tokens.proofs.ScanLaws.{place, plain-begin, plain-stop, plain-on, scans}
+use Rattle.tokens.proofs.scan.plain_end.Statement.{statement}
+use Rattle.tokens.proofs.scan.plain_end.Tie as tie
+
+-- the comment from here, where so many bytes have been passed, ends where it does from the start
+abbrev Inv-loop : tie.InvT-loop
+Inv-loop s start line column at₀ at =
+    (start ≤ at) × (trivia 1 (place at line (counted (column + (at - start)))) (chars s at) ≡ trivia 1 (place start line column) (chars s start))
+
+abbrev μ-loop : tie.MeasureT-loop
+μ-loop s start line column at₀ at = length s - at
+
+pub plain-end-spec : {M : Type 1} → statement M
+plain-end-spec =
+    tie.close
+    (tie.spec
+    Inv-loop
+    μ-loop
+    (λ c. (search needs, plain-begin _ _ _ _ (search needs)))
+    (λ c κs. search needs)
+    (λ c κs. search needs)
+    (λ c. search needs)
+    (λ c κs. search needs)
+    (λ c. (search (needs, plain-stop), search needs))
+    (λ c. search scans)
+    (λ c. search scans)
+    (λ c. (search needs, search (needs, plain-on))))
