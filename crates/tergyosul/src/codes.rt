@@ -289,7 +289,7 @@ pub struct TargetWords {
     pub number: u32,
 }
 
-pub fn target(x: LightTarget) -> TargetWords
+pub fn light_target(x: LightTarget) -> TargetWords
     ensures { λ r. ⌜ r ≡ targetParts x ⌝ }
 {
     match x {

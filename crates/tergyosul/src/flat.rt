@@ -110,7 +110,7 @@ fn of_name(out: &mut [u32], row: usize, kind: u32, n: Name, a: u32)
 fn of_target(out: &mut [u32], row: usize, kind: u32, to: LightTarget, a: u32)
     ensures { λ _. ⌜ now (out .exit) ≡ rowSet (now (out .entry)) row (kind ∷ targetWords (targetParts to) ++ a ∷ []) ⌝ }
 {
-    let t = codes::target(to);
+    let t = codes::light_target(to);
     short(out, row, kind, t.kind, t.adapter, t.number, a, 0);
 }
 

@@ -13,4 +13,4 @@ of-target-spec =
     (λ c κs. search needs)
     (λ c κs. search needs)
     (λ c. search needs)
-    (λ c. c .before .before .short .ensures ∙ rw (c .before .before .before .before .target .ensures)))
+    (λ c. c .before .before .short .ensures ∙ rw (c .before .before .before .before .light-target .ensures)))
