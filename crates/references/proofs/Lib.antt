@@ -1,6 +1,8 @@
+pub mod FindLaws
 pub mod LineLaws
 pub mod SheetLaws
 pub mod ResolveLaws
+pub mod SkipLaws
 pub mod RefChain
 pub mod ArgChain
 pub mod ArgLaws

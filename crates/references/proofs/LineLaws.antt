@@ -7,34 +7,29 @@ use Prim.Native.Nat.{ℕ, _+_, _-_, _*_, _<_, _≤_}
 use native.Mathlib.Omega.{arith}
 use native.Mathlib.Numerals.{add-one}
 use native.Mathlib.Nat.{zero-add}
-use lib.ListN.{length, drop, getD, length-drop, drop-of-length-le}
-use lib.Seq.{take-all, take-length, drop-cons}
-use lib.Dec.{ltb, leb, eqb}
+use lib.ListN.{length, take, drop, getD, length-drop, drop-of-length-le}
+use lib.Seq.{take-all, drop-cons}
+use lib.Dec.{ltb, leb}
 use borrow.Author.Tests.{lt-ltb, le-ltb, le-leb, lt-leb, eq-eqb, ne-eqb, not-true, not-false}
-use Rattle.bytes.specs.Bytes.{indexOf, slice}
+use Rattle.bytes.specs.Bytes.{indexOf}
 use Rattle.text.specs.Choice.{pick}
-use Rattle.text.specs.Part.{partOf}
 use Rattle.text.proofs.Tests.{steps, eq-told-yes, eq-told-no}
 use Rattle.tokens.specs.Ascii.{isDigit}
+use Rattle.references.specs.Find.{firstAt}
 use Rattle.references.specs.Line.{field, rest, hasComma, digitsOn, numeral, rowBy, rowOf, primaryOf, adapterOf, lineBy, nameOf}
 use Rattle.references.specs.declared.line.Line.{Line}
 use Rattle.references.specs.declared.line.Line.the-variants.{Bad}
+use Rattle.references.proofs.FindLaws.{first-is}
 
 -- a search of a whole line
-pub find-all : (b : ℕ) (l : List ℕ) {r : ℕ} → r ≡ 0 + indexOf b (slice 0 (length l) l) → r ≡ indexOf b l
-unfolding slice
-find-all b l e = rw (zero-add, take-length) at e
-
-pub none-by : (b : ℕ) (l : List ℕ) {r : ℕ} → r ≡ 0 + indexOf b (slice 0 (length l) l) → eqb r (length l) ≡ eqb (indexOf b l) (length l)
-none-by b l e = rw (find-all b l e)
+pub find-all : (b : ℕ) (l : List ℕ) {r : ℕ} → r ≡ firstAt b l 0 → r ≡ indexOf b l
+find-all b l e = e ∙ first-is b l 0 (omega arith) ∙ zero-add _
 
 -- the first comma is at i: the bytes before it, those behind it, and whether it is there
 module _ (l : List ℕ) {i : ℕ} (comma : i ≡ indexOf 0x2C l) where
-  pub field-part : {x : List ℕ} → x ≡ partOf l 0 i → x ≡ field l
-  unfolding partOf field
-  field-part e =
-      let k : i - 0 ≡ i = omega arith in
-      e ∙ rw (k, comma)
+  pub field-slice : take i l ≡ field l
+  unfolding field
+  field-slice = rw comma
 
   pub rest-none : length l ≤ i → [] ≡ rest l
   unfolding rest
@@ -42,9 +37,9 @@ module _ (l : List ℕ) {i : ℕ} (comma : i ≡ indexOf 0x2C l) where
       let k : length l ≤ i + 1 = omega arith in
       rw (← comma, drop-of-length-le l k)
 
-  pub rest-part : {x : List ℕ} → x ≡ partOf l (i + 1) (length l) → x ≡ rest l
-  unfolding partOf rest
-  rest-part e = e ∙ rw (← comma) (take-all (length l - (i + 1)) (drop (i + 1) l) (simp length-drop (omega arith)))
+  pub rest-slice : take (length l - (i + 1)) (drop (i + 1) l) ≡ rest l
+  unfolding rest
+  rest-slice = rw (← comma) (take-all (length l - (i + 1)) (drop (i + 1) l) (simp length-drop (omega arith)))
 
   pub has-by : ltb i (length l) ≡ hasComma l
   unfolding hasComma
@@ -150,10 +145,9 @@ pub ruleset reading = (
   comma-no,
   steps,
   find-all,
-  none-by,
-  field-part,
+  field-slice,
   rest-none,
-  rest-part,
+  rest-slice,
   has-by,
   name-by,
   numeral-none,

@@ -1,22 +1,19 @@
 -- A name looked up in one pass over the rows: what the tally knows, that the answer is the definition's, and that it is found exactly
 -- where one row is in scope.
-use Prim.Native.Nat.{ℕ, zero, suc, _+_, _-_, _<_, _≤_}
-use native.Mathlib.Nat.{sub-self}
-use lib.Seq.{take-all, drop-drop}
-use Rattle.bytes.specs.Bytes.{indexOf}
+use Prim.Native.Nat.{ℕ, suc, _+_, _<_, _≤_}
 use native.Mathlib.Omega.{arith}
 use mathlib.Core.Path.{_≡_, _∙_, refl, ap, sym}
 use mathlib.Core.Bool.{Bool, true, false}
 use mathlib.Core.List.{List, [], _∷_, _++_, append-nil, append-assoc}
-use lib.ListN.{length, drop, length-append, length-drop}
+use lib.ListN.{length, drop, length-append}
 use lib.Dec.{ltb, eqb}
 use borrow.Author.Tests.{ltb-false, le-ltb, eq-eqb, ne-eqb, eqb-true}
 use Rattle.text.specs.Choice.{pick}
 use Rattle.text.specs.Part.{partOf, sameBytes, Same}
 use Rattle.text.specs.Place.{counted}
-use Rattle.text.proofs.Tests.{picked, pick-same, steps}
+use Rattle.text.proofs.Tests.{picked, both, steps}
 use Rattle.text.proofs.PartLaws.{same-refl, same-eq}
-use Rattle.references.specs.Line.{rest, lineOf, nameOf, endsWith}
+use Rattle.references.specs.Line.{lineOf, nameOf}
 use Rattle.references.specs.Sheet.{lines, lineEnd, Entry, entries, entryBy}
 use Rattle.references.specs.Resolve.{isCandidate, candidates, isIn, inScope, elsewhere, noneOf, chosen, resolved, scopedTally, otherTally, tallied, tally, lineTallyBy, lineTally, noTally, foundBy}
 use Rattle.references.specs.Scope.{Candidate, None, none, none-past, Picks, past, here}
@@ -132,10 +129,6 @@ tally-entry kind name scope t own es (Adapter a) = refl
 tally-entry kind name scope t own es Bad = refl
 
 -- what the tests of a row say
-both : (x y : Bool) → pick x y false ≡ true → (x ≡ true) × (y ≡ true)
-both true y e = (refl, e)
-both false y e = absurd (let z : _≡_ {A = ℕ} 0 1 = cc in omega arith)
-
 is-in : (scope : Scope) (b : ℕ) → ((a : ℕ) → scope ≡ On a → b ≡ a) → isIn scope b ≡ true
 unfolding isIn
 is-in Any b h = refl
@@ -222,8 +215,8 @@ module _ (kind : ℕ) (name : List ℕ) (scope : Scope) where
   test-true : (e : Entry) → test e ≡ true → Candidate kind name scope e
   unfolding isCandidate
   test-true e h =
-      let b = both (isCandidate kind name e) _ h in
-      let c = both (eqb (e .kind) kind) _ (b .0) in
+      let b = both (isCandidate kind name e) h in
+      let c = both (eqb (e .kind) kind) (b .0) in
       record { same-kind = eqb-true _ _ (c .0); same-name = same-eq _ _ (c .1); in-scope = in-true scope _ (b .1) }
 
   test-false : {e : Entry} → test e ≡ false → Candidate kind name scope e → ⊥
@@ -302,61 +295,6 @@ name-yes own name a b s e h g = rw (← e, ← (s .equals), h) g
 pub name-no : {A : Type 0} (own name : List ℕ) (a b : A) {w : List ℕ} {r : Bool} {x : A} → Same w name r → w ≡ own → r ≡ false → x ≡ b →
     x ≡ pick (sameBytes own name) a b
 name-no own name a b s e h g = rw (← e, ← (s .equals), h) g
-
--- what is left of a line behind some of its bytes is found again by its length
-shorter : (k : ℕ) (l : List ℕ) → length (drop k l) ≤ length l
-shorter k l = rw (length-drop k l) (omega arith)
-
-one-more : (m n : ℕ) → n ≤ m → suc m - n ≡ suc (m - n)
-one-more m n h = omega arith
-
-suffix : (k : ℕ) (l : List ℕ) → drop (length l - length (drop k l)) l ≡ drop k l
-suffix zero l = ap (λ (n : ℕ). drop n l) (sub-self (length l))
-suffix (suc k) [] = refl
-suffix (suc k) (x ∷ l) =
-    ap (λ (n : ℕ). drop n (x ∷ l)) (one-more (length l) (length (drop k l)) (shorter k l)) ∙ suffix k l
-
-ending : (k : ℕ) (l : List ℕ) → endsWith l (drop k l) ≡ true
-unfolding endsWith partOf
-ending k l =
-    let short = shorter k l in
-    rw (le-ltb (length l) (length (drop k l)) short, suffix k l, take-all (length l - (length l - length (drop k l))) (drop k l) (omega arith))
-    (same-refl (drop k l))
-
-rest-is : (l : List ℕ) → rest l ≡ drop (indexOf 0x2C l + 1) l
-unfolding rest
-rest-is l = refl
-
-name-is : (l : List ℕ) →
-    nameOf l ≡ drop (indexOf 0x2C l + 1 + (indexOf 0x2C (rest l) + 1) + (indexOf 0x2C (rest (rest l)) + 1)) l
-unfolding nameOf
-name-is l =
-    let a = indexOf 0x2C l + 1 in
-    let b = indexOf 0x2C (rest l) + 1 in
-    let c = indexOf 0x2C (rest (rest l)) + 1 in
-    rest-is (rest (rest l)) ∙ ap (drop c) (rest-is (rest l) ∙ ap (drop b) (rest-is l) ∙ drop-drop b a l) ∙ drop-drop c (a + b) l
-
-name-ends : (l : List ℕ) → endsWith l (nameOf l) ≡ true
-name-ends l =
-    ap (endsWith l) (name-is l)
-    ∙ ending (indexOf 0x2C l + 1 + (indexOf 0x2C (rest l) + 1) + (indexOf 0x2C (rest (rest l)) + 1)) l
-
--- a line that does not end with the name is no row that has it
-other-name : (l name : List ℕ) (b : Bool) → sameBytes (nameOf l) name ≡ b → endsWith l name ≡ false → b ≡ false
-other-name l name false e h = refl
-other-name l name true e h = sym (name-ends l) ∙ ap (endsWith l) (same-eq (nameOf l) name e) ∙ h
-
-kept-tally : (kind : ℕ) (name : List ℕ) (scope : Scope) (t : Tally) (own : List ℕ) (x : Line) → sameBytes own name ≡ false →
-    t ≡ lineTallyBy kind name scope t own x
-kept-tally kind name scope t own (Row k adapter number) e = rw (e, pick-same (eqb k kind) t)
-kept-tally kind name scope t own (Primary a) e = refl
-kept-tally kind name scope t own (Adapter a) e = refl
-kept-tally kind name scope t own Bad e = refl
-
-pub unnamed : (kind : ℕ) (name : List ℕ) (scope : Scope) (t : Tally) (l : List ℕ) {r : Bool} → r ≡ endsWith l name → r ≡ false →
-    t ≡ lineTally kind name scope t l
-unfolding lineTally
-unnamed kind name scope t l d h = kept-tally kind name scope t (nameOf l) (lineOf l) (other-name l name _ refl (sym d ∙ h))
 
 -- closes what is left of a function that takes a scope or a line apart
 pub ruleset lookups = (in-on, by-line, name-yes, name-no, steps)

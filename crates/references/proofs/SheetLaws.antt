@@ -1,22 +1,22 @@
 -- The lines of a sheet, one after the other by their offsets.
-use mathlib.Core.Path.{_≡_, refl, ap, _∙_, sym}
+use mathlib.Core.Path.{_≡_, refl, ap}
 use mathlib.Core.Bool.{Bool, true, false}
 use mathlib.Core.List.{List, [], _∷_}
-use Prim.Native.Nat.{ℕ, suc, _+_, _-_, _*_, _^_, _<_, _≤_}
+use Prim.Native.Nat.{ℕ, _+_, _-_, _*_, _^_, _<_, _≤_}
 use native.Mathlib.Nat.{suc-add, add-assoc}
 use native.Mathlib.Omega.{arith}
-use native.Mathlib.Numerals.{add-one}
-use lib.ListN.{length, take, drop, getD, length-drop, drop-of-length-le}
-use lib.Seq.{drop-drop, drop-cons, take-length}
-use lib.Dec.{ltb, eqb}
+use lib.ListN.{length, take, drop, length-drop, drop-of-length-le}
+use lib.Seq.{drop-drop}
+use lib.Dec.{eqb}
 use mir.Syntax.{w64}
 use mir.Val.{Fits}
-use borrow.Author.Tests.{lt-ltb, ltb-true, ltb-false, eq-eqb, ne-eqb}
-use Rattle.bytes.specs.Bytes.{indexOf, indexAfter, slice}
+use borrow.Author.Tests.{lt-ltb}
+use Rattle.bytes.specs.Bytes.{indexOf, indexAfter}
 use Rattle.text.specs.Choice.{pick}
 use Rattle.text.specs.Part.{partOf}
-use Rattle.text.proofs.Tests.{picked, lt-no}
+use Rattle.references.specs.Find.{firstAt}
 use Rattle.references.specs.Sheet.{lines, lineEnd, onto}
+use Rattle.references.proofs.FindLaws.{first-within, first-from}
 
 -- a first byte and the lines of the rest, by whether that byte is LF
 line-by : (c : ℕ) (s : List ℕ) (t : Bool) →
@@ -34,20 +34,10 @@ lines-first [] h = absurd (omega arith)
 lines-first (c ∷ []) h = line-by c [] (eqb c 0x0A) refl
 lines-first (c ∷ d ∷ l) h = line-by c (d ∷ l) (eqb c 0x0A) (ap (onto c) (lines-first (d ∷ l) (omega arith)))
 
-after-within : (t : Bool) {k n : ℕ} → k ≤ n → indexAfter t k ≤ suc n
-unfolding indexAfter
-after-within true h = omega arith
-after-within false h = omega arith
-
-index-within : (b : ℕ) (l : List ℕ) → indexOf b l ≤ length l
-unfolding indexOf
-index-within b [] = omega arith
-index-within b (x ∷ l) = after-within (eqb x b) (index-within b l)
-
 -- before the end, the line at an offset is the first, and the others begin behind its LF
 pub lines-on : (s : List ℕ) (at : ℕ) → at < length s →
     lines (drop at s) ≡ partOf s at (lineEnd s at) ∷ lines (drop (lineEnd s at + 1) s)
-unfolding lineEnd partOf
+unfolding lineEnd firstAt partOf
 lines-on s at h =
     let k = indexOf 0x0A (drop at s) in
     let d : at + k - at ≡ k = omega arith in
@@ -61,17 +51,12 @@ lines-none s at h = ap lines (drop-of-length-le s h)
 -- any offset is given an end within the sheet
 end-within : (s : List ℕ) (at : ℕ) → lineEnd s at ≤ length s
 unfolding lineEnd
-end-within s at =
-    picked
-    (λ (k : ℕ). k ≤ length s)
-    (ltb at (length s))
-    (λ t. omega (arith, ltb-true at (length s) t, simp length-drop at (index-within 0x0A (drop at s))))
-    (λ t. omega arith)
+end-within s at = first-within 0x0A s at
 
 -- a line ends where it begins or behind, and within the sheet
-pub line-within : (s : List ℕ) (at : ℕ) → at < length s → (at ≤ lineEnd s at) × (lineEnd s at ≤ length s)
+pub line-within : (s : List ℕ) (at : ℕ) → at ≤ length s → (at ≤ lineEnd s at) × (lineEnd s at ≤ length s)
 unfolding lineEnd
-line-within s at h = (rw (lt-ltb at (length s) h) (omega arith), end-within s at)
+line-within s at h = (first-from 0x0A s at h, end-within s at)
 
 -- the line at an offset as the code reads it: the offset where it ends, and its bytes p
 pub line-read : (s : List ℕ) (at : ℕ) {end : ℕ} {p : List ℕ} → end ≡ lineEnd s at → at < length s → p ≡ partOf s at end →
@@ -81,47 +66,9 @@ line-read s at e h q = rw (q, e) (lines-on s at h)
 -- behind it less is left
 pub less-left : (s : List ℕ) (at : ℕ) {end : ℕ} → end ≡ lineEnd s at → at < length s → length s - (end + 1) < length s - at
 less-left s at e h =
-    let w = line-within s at h in
+    let w = line-within s at (omega arith) in
     omega arith
 
 -- and the offset behind it is a usize
 pub next-fits : (s : List ℕ) (at : ℕ) {end : ℕ} → end ≡ lineEnd s at → length s * 1 < 2 ^ 63 → Fits w64 (end + 1)
 next-fits s at e h = omega (arith, end-within s at)
-
--- the end of a line, byte by byte
-pub end-past : (s : List ℕ) (at : ℕ) → length s ≤ at → length s ≡ lineEnd s at
-unfolding lineEnd
-end-past s at h = lt-no _ _ _ _ h refl
-
-end-is : (s : List ℕ) (i : ℕ) → i ≤ length s → lineEnd s i ≡ i + indexOf 0x0A (drop i s)
-unfolding lineEnd indexOf
-end-is s i h =
-    picked (λ (r : ℕ). r ≡ i + indexOf 0x0A (drop i s)) (ltb i (length s))
-    (λ e. refl)
-    (λ e.
-    let k : length s ≤ i = ltb-false i (length s) e in
-    rw (drop-of-length-le s k) (omega arith))
-
-first-at : (s : List ℕ) (i : ℕ) (t : Bool) → i < length s → eqb (getD s i 0) 0x0A ≡ t →
-    indexOf 0x0A (drop i s) ≡ indexAfter t (indexOf 0x0A (drop (i + 1) s))
-unfolding indexOf
-first-at s i t h e = rw (drop-cons s i 0 h, e, add-one)
-
-pub end-here : (s : List ℕ) (i : ℕ) → i < length s → getD s i 0 ≡ 0x0A → i ≡ lineEnd s i
-unfolding indexAfter
-end-here s i h e =
-    let k : i ≤ length s = omega arith in
-    let f = first-at s i true h (eq-eqb _ _ e) in
-    rw (end-is s i k, f) (omega arith)
-
-pub end-next : (s : List ℕ) (i : ℕ) → i < length s → (getD s i 0 ≡ 0x0A → ⊥) → lineEnd s (i + 1) ≡ lineEnd s i
-unfolding indexAfter
-end-next s i h e =
-    let k : i ≤ length s = omega arith in
-    let m : i + 1 ≤ length s = omega arith in
-    let f = first-at s i false h (ne-eqb _ _ e) in
-    rw (end-is s i k, end-is s (i + 1) m, f) (omega arith)
-
-pub end-found : (s : List ℕ) (i : ℕ) {r : ℕ} → i ≤ length s → r ≡ i + indexOf 0x0A (slice i (length s) s) → r ≡ lineEnd s i
-unfolding slice
-end-found s i h e = rw (take-length s) at e ∙ sym (end-is s i h)

@@ -1,4 +1,5 @@
 pub mod Limits
+pub mod Find
 pub mod Line
 pub mod Sheet
 pub mod Resolve

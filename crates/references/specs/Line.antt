@@ -7,7 +7,7 @@ use lib.Dec.{ltb, leb, eqb}
 use Rattle.bytes.specs.Bytes.{indexOf}
 use Rattle.text.specs.Choice.{pick, within}
 use Rattle.text.specs.Literal.{ascii}
-use Rattle.text.specs.Part.{partOf, sameBytes}
+use Rattle.text.specs.Part.{sameBytes}
 use Rattle.tokens.specs.Ascii.{isDigit}
 use Rattle.references.specs.declared.line.Line.{Line}
 use Rattle.references.specs.declared.line.Line.the-variants.{Primary, Adapter, Row, Bad}
@@ -44,8 +44,15 @@ unfoldable pub mostOf : ℕ → ℕ
 mostOf kind = pick (eqb kind 2) 15 63
 
 -- "A name has 1 to 48 bytes without comma, quote or LF." A line has no LF.
+unfoldable pub isMark : ℕ → Bool
+isMark c = pick (eqb c 0x2C) true (eqb c 0x22)
+
+unfoldable pub plain : List ℕ → Bool
+plain [] = true
+plain (c ∷ l) = pick (isMark c) false (plain l)
+
 unfoldable pub isName : List ℕ → Bool
-isName l = pick (within 1 48 (length l)) (pick (hasComma l) false (eqb (indexOf 0x22 l) (length l))) false
+isName l = pick (within 1 48 (length l)) (plain l) false
 
 -- A,N,name of a kind
 unfoldable pub rowBy : ℕ → ℕ → ℕ → List ℕ → Line
@@ -78,7 +85,3 @@ lineOf l = pick (hasComma l) (lineBy (field l) (rest l)) Bad
 -- the name of a row's line: what is behind its third comma
 unfoldable pub nameOf : List ℕ → List ℕ
 nameOf l = rest (rest (rest l))
-
--- whether the last bytes of a line are these
-unfoldable pub endsWith : List ℕ → List ℕ → Bool
-endsWith l w = pick (ltb (length l) (length w)) false (sameBytes (partOf l (length l - length w) (length l)) w)

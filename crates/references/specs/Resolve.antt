@@ -1,14 +1,15 @@
 -- A name looked up among the rows of a sheet (document 01, questions 31 to 34).
 use Prim.Native.Nat.{ℕ, _+_}
+use mathlib.Core.Path.{_≡_}
 use mathlib.Core.List.{List, [], _∷_}
 use mathlib.Core.Bool.{Bool, true, false}
-use lib.ListN.{length}
+use lib.ListN.{length, drop}
 use lib.Dec.{eqb}
 use Rattle.text.specs.Choice.{pick}
 use Rattle.text.specs.Part.{sameBytes}
 use Rattle.text.specs.Place.{counted}
 use Rattle.references.specs.Line.{lineOf, nameOf}
-use Rattle.references.specs.Sheet.{Entry}
+use Rattle.references.specs.Sheet.{Entry, lines, entries}
 use Rattle.references.specs.declared.line.Line.{Line}
 use Rattle.references.specs.declared.line.Line.the-variants.{Primary, Adapter, Row, Bad}
 use Rattle.references.specs.declared.resolve.Scope.{Scope}
@@ -99,6 +100,12 @@ lineTally kind name scope t l = lineTallyBy kind name scope t (nameOf l) (lineOf
 
 abbrev pub noTally : Tally
 noTally = record { known = false; first = 0; count = 0; adapter = 0; number = 0; spans = false }
+
+-- no row between two offsets has the name: those from both on come to the same
+abbrev pub Passed : List ℕ → List ℕ → ℕ → ℕ → Type 0
+Passed name s from at =
+    (kind : ℕ) (scope : Scope) (t : Tally) →
+    tally kind name scope t (entries (lines (drop at s))) ≡ tally kind name scope t (entries (lines (drop from s)))
 
 unfoldable pub foundBy : Tally → Found
 foundBy t =

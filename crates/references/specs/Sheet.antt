@@ -2,10 +2,10 @@
 use Prim.Native.Nat.{ℕ, _+_}
 use mathlib.Core.List.{List, [], _∷_}
 use mathlib.Core.Bool.{Bool, true, false}
-use lib.ListN.{length, drop}
-use Rattle.bytes.specs.Bytes.{indexOf}
+use lib.ListN.{length}
 use lib.Dec.{ltb, eqb}
 use Rattle.text.specs.Choice.{pick}
+use Rattle.references.specs.Find.{firstAt}
 use Rattle.references.specs.Line.{lineOf, nameOf}
 use Rattle.references.specs.declared.line.Line.{Line}
 use Rattle.references.specs.declared.line.Line.the-variants.{Primary, Adapter, Row, Bad}
@@ -24,7 +24,7 @@ lines (c ∷ s) = pick (eqb c 0x0A) ([] ∷ lines s) (onto c (lines s))
 
 -- the offset of the LF that ends the line at an offset, or of the end of s
 unfoldable pub lineEnd : List ℕ → ℕ → ℕ
-lineEnd s at = pick (ltb at (length s)) (at + indexOf 0x0A (drop at s)) (length s)
+lineEnd s at = firstAt 0x0A s at
 
 -- a line that may follow the first: an adapter or a row
 unfoldable pub isEntry : Line → Bool

@@ -1,8 +1,9 @@
 // One line of the name sheet. What a line means is said in one definition, lineOf, and read by one function, line_of.
+use crate::find;
 ghost use mathlib.Core.Path.{_≡_};
 ghost use Prim.Native.Nat.{_-_};
 ghost use Rattle.bytes.specs.Bytes.{indexOf};
-ghost use Rattle.references.specs.Line.{field, rest, hasComma, numeral, kindOf, mostOf, isName, digitsOn, rowBy, rowOf, primaryOf, adapterOf, lineBy, lineOf, nameOf};
+ghost use Rattle.references.specs.Line.{rest, numeral, kindOf, mostOf, isMark, plain, isName, digitsOn, rowBy, rowOf, primaryOf, adapterOf, lineBy, lineOf, nameOf};
 
 // What a line says: the primary adapter, a listed adapter, a row of a kind (1 lamp, 2 group, 3 device, 4 input) with its adapter and
 // number, or nothing that a sheet may say.
@@ -21,14 +22,7 @@ pub enum Line {
 fn comma(l: &[u8]) -> usize
     ensures { λ r. ⌜ r ≡ indexOf 0x2C (now (l .entry)) ⌝ }
 {
-    bytes::scan::find(l, 0, l.len(), b',')
-}
-
-// The first field.
-fn first_field(l: &[u8]) -> &[u8]
-    ensures { λ r. ⌜ now r ≡ field (now (l .entry)) ⌝ }
-{
-    text::part::part(l, 0, comma(l))
+    find::find(l, 0, b',')
 }
 
 // What stands behind the first comma.
@@ -39,13 +33,7 @@ fn behind_comma(l: &[u8]) -> &[u8]
     if l.len() <= at {
         return &l[..0];
     }
-    text::part::part(l, at + 1, l.len())
-}
-
-fn has_comma(l: &[u8]) -> bool
-    ensures { λ r. ⌜ r ≡ hasComma (now (l .entry)) ⌝ }
-{
-    comma(l) < l.len()
+    &l[at + 1..]
 }
 
 // The number that digits write, up to 999 and with no leading zero; 1000 where the bytes are none.
@@ -135,10 +123,34 @@ fn is_name(l: &[u8]) -> bool
     if 48 < l.len() {
         return false;
     }
-    if has_comma(l) {
+    is_plain(l)
+}
+
+// A comma or a quote? Most bytes are above both, and so told by one test.
+fn is_mark(c: u8) -> bool
+    ensures { λ r. ⌜ r ≡ isMark c ⌝ }
+{
+    if b',' < c {
         return false;
     }
-    bytes::scan::find(l, 0, l.len(), b'"') == l.len()
+    if c == b',' {
+        return true;
+    }
+    c == b'"'
+}
+
+// No comma and no quote?
+fn is_plain(l: &[u8]) -> bool
+    ensures { λ r. ⌜ r ≡ plain (now (l .entry)) ⌝ }
+{
+    let mut i: usize = 0;
+    while i < l.len() {
+        if is_mark(l[i]) {
+            return false;
+        }
+        i += 1;
+    }
+    true
 }
 
 fn row_by(kind: u32, adapter: u32, number: u32, name: &[u8]) -> Line
@@ -169,16 +181,16 @@ fn row_of(kind: u32, l: &[u8]) -> Line
     if l.len() <= at {
         return Line::Bad;
     }
-    let more = text::part::part(l, at + 1, l.len());
+    let more = &l[at + 1..];
     let second = comma(more);
     if more.len() <= second {
         return Line::Bad;
     }
     row_by(
         kind,
-        decimal(text::part::part(l, 0, at)),
-        decimal(text::part::part(more, 0, second)),
-        text::part::part(more, second + 1, more.len()),
+        decimal(&l[..at]),
+        decimal(&more[..second]),
+        &more[second + 1..],
     )
 }
 
@@ -226,10 +238,7 @@ pub fn line_of(l: &[u8]) -> Line
     if l.len() <= at {
         return Line::Bad;
     }
-    line_by(
-        text::part::part(l, 0, at),
-        text::part::part(l, at + 1, l.len()),
-    )
+    line_by(&l[..at], &l[at + 1..])
 }
 
 // The name in a row's line.

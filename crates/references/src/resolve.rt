@@ -4,10 +4,10 @@ use crate::line::Line;
 use crate::sheet;
 use text::place;
 ghost use mathlib.Core.Path.{_≡_};
+ghost use Prim.Native.Nat.{_≤_};
 ghost use Rattle.text.specs.Choice.{pick};
-ghost use Rattle.references.specs.Line.{endsWith};
 ghost use Rattle.references.specs.Sheet.{namesOf};
-ghost use Rattle.references.specs.Resolve.{isIn, scopedTally, otherTally, tallied, lineTally, tally, noTally, foundBy, resolved};
+ghost use Rattle.references.specs.Resolve.{isIn, scopedTally, otherTally, tallied, lineTally, tally, noTally, Passed, foundBy, resolved};
 
 // The adapter in a reference's parentheses: none, or one.
 pub enum Scope {
@@ -106,28 +106,8 @@ fn with_row(t: Tally, scope: Scope, adapter: u32, number: u32) -> Tally
     other_tally(t, adapter)
 }
 
-// Whether a line ends with the name. No other line is a row that has it.
-fn ends_with(l: &[u8], name: &[u8]) -> bool
-    ensures { λ r. ⌜ r ≡ endsWith (now (l .entry)) (now (name .entry)) ⌝ }
-{
-    if l.len() < name.len() {
-        return false;
-    }
-    text::part::same(text::part::part(l, l.len() - name.len(), l.len()), name)
-}
-
 // One line more.
 fn with_line(t: Tally, l: &[u8], kind: u32, name: &[u8], scope: Scope) -> Tally
-    ensures { λ r. ⌜ r ≡ lineTally kind (now (name .entry)) scope t (now (l .entry)) ⌝ }
-{
-    if ends_with(l, name) {
-        return with_named(t, l, kind, name, scope);
-    }
-    t
-}
-
-// One line more, which may have the name.
-fn with_named(t: Tally, l: &[u8], kind: u32, name: &[u8], scope: Scope) -> Tally
     ensures { λ r. ⌜ r ≡ lineTally kind (now (name .entry)) scope t (now (l .entry)) ⌝ }
 {
     let said = line::line_of(l);
@@ -184,6 +164,30 @@ fn found_by(t: Tally) -> Found
     }
 }
 
+// From the start of a line on, the start of one before which no line has the name. A row that has it ends with a comma and the name, and
+// has at least `lamp,0,0` before these: as many bytes are passed unread, and only the line that is reached then is looked at.
+fn skip_lines(s: &[u8], from: usize, name: &[u8]) -> usize
+    ensures { λ r. ⌜ Passed (now (name .entry)) (now (s .entry)) from r ⌝ }
+    ensures { λ r. ⌜ from ≤ r ⌝ }
+{
+    let len = s.len();
+    let least = name.len() + 9;
+    let mut at = from;
+    while at < len {
+        if len - at < least {
+            return len;
+        }
+        let end = sheet::line_end(s, at + least);
+        if s[end - least + 8] == b',' {
+            if text::part::same(&s[end - name.len()..end], name) {
+                return at;
+            }
+        }
+        at = end + 1;
+    }
+    at
+}
+
 // All lines of the sheet.
 fn tally_all(s: &[u8], kind: u32, name: &[u8], scope: Scope) -> Tally
     ensures { λ r. ⌜ r ≡ tally kind (now (name .entry)) scope noTally (namesOf (now (s .entry)) .rows) ⌝ }
@@ -196,11 +200,11 @@ fn tally_all(s: &[u8], kind: u32, name: &[u8], scope: Scope) -> Tally
         number: 0,
         spans: false,
     };
-    let mut at: usize = 0;
+    let mut at = skip_lines(s, 0, name);
     while at < s.len() {
         let end = sheet::line_end(s, at);
         t = with_line(t, text::part::part(s, at, end), kind, name, scope);
-        at = end + 1;
+        at = skip_lines(s, end + 1, name);
     }
     t
 }

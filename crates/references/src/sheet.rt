@@ -1,4 +1,5 @@
 // The name sheet: question 3, and the lookups that need no name.
+use crate::find;
 use crate::line;
 use crate::line::Line;
 ghost use mathlib.Core.Path.{_≡_};
@@ -17,32 +18,11 @@ pub enum Sheet {
     BadLine(u32),
 }
 
-// The offset of the LF that ends the line at an offset; the length of the sheet where there is none. Every lookup reads the whole sheet by
-// this function, so that it takes four bytes a turn.
+// The offset of the LF that ends the line at an offset; the length of the sheet where there is none.
 pub fn line_end(s: &[u8], at: usize) -> usize
     ensures { λ r. ⌜ r ≡ lineEnd (now (s .entry)) at ⌝ }
 {
-    let len = s.len();
-    if len <= at {
-        return len;
-    }
-    let mut i = at;
-    while 4 <= len - i {
-        if s[i] == b'\n' {
-            return i;
-        }
-        if s[i + 1] == b'\n' {
-            return i + 1;
-        }
-        if s[i + 2] == b'\n' {
-            return i + 2;
-        }
-        if s[i + 3] == b'\n' {
-            return i + 3;
-        }
-        i += 4;
-    }
-    bytes::scan::find(s, i, len, b'\n')
+    find::find(s, at, b'\n')
 }
 
 // May this line follow the first?

@@ -28,7 +28,7 @@ use Rattle.tokens.specs.Token.{singleKind, pairKind, single, punct, string, tim
 use Rattle.references.specs.Args.{slotOf, isNamed, keySlot, namedSlot, unnamedSlot, slotAt, typeWord, typeAt, deviceItem, instanceItem, groupItem, typeItem, adapterItem, itemAt, put, noArgs, argAt, countWith, argsFrom, deviceInstance, withInst, withDev, isDev, isNumber, withGroup, selected, closeArgs, inputSelector, oneInstance, inputRef}
 use Rattle.references.specs.Grammar.{slot}
 use Rattle.references.specs.Limits.{lastShortAddress, lastGroup, lastScene, lastLevel, lastInstance, lastInstanceGroup, lastInstanceType, lastEventInformation}
-use Rattle.references.specs.Line.{field, rest, hasComma, digitsOn, numeral, kindOf, mostOf, isName, rowBy, rowOf, primaryOf, adapterOf, lineBy, lineOf, nameOf}
+use Rattle.references.specs.Line.{field, rest, hasComma, digitsOn, numeral, kindOf, mostOf, isMark, plain, isName, rowBy, rowOf, primaryOf, adapterOf, lineBy, lineOf, nameOf}
 use Rattle.references.specs.Refs.{nameAt, closedName, quotedName, nameOrId, adapterNumber, adapterAssign, adapterClause, adapterOr, foundAt, referred, closeR, openR, reference, lampRef, groupRef, deviceRef, devName, inputDeviceRef, lampTarget, groupTarget, lightTarget}
 use Rattle.references.specs.Resolve.{isCandidate, candidates, isIn, inScope, elsewhere, noneOf, chosen, resolved}
 use Rattle.references.specs.Sheet.{lines, isEntry, entriesFrom, isPrimary, linesCheck, sheetCheck, entries, isListing, lists, primaryLine, namesOf}
@@ -104,7 +104,7 @@ unfolding indexOf indexAfter table _⇒_ line S zeros one on partOf sameBytes co
     word tokenAt slotOf isNamed keySlot namedSlot unnamedSlot slotAt typeWord typeAt deviceItem instanceItem groupItem typeItem adapterItem
     itemAt put noArgs argAt countWith argsFrom deviceInstance withInst withDev isDev isNumber withGroup selected closeArgs inputSelector
     oneInstance inputRef slot lastShortAddress lastGroup lastScene lastLevel lastInstance lastInstanceGroup lastInstanceType
-    lastEventInformation field rest hasComma digitsOn numeral kindOf mostOf isName rowBy rowOf primaryOf adapterOf lineBy lineOf nameOf
+    lastEventInformation field rest hasComma digitsOn numeral kindOf mostOf isMark plain isName rowBy rowOf primaryOf adapterOf lineBy lineOf nameOf
     nameAt closedName quotedName nameOrId adapterNumber adapterAssign adapterClause adapterOr foundAt referred closeR openR reference
     lampRef groupRef deviceRef devName inputDeviceRef lampTarget groupTarget lightTarget isCandidate candidates isIn inScope elsewhere
     noneOf chosen resolved lines isEntry entriesFrom isPrimary linesCheck sheetCheck entries isListing lists primaryLine namesOf

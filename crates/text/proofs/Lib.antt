@@ -7,4 +7,5 @@ pub mod CharLaws
 pub mod StepLaws
 pub mod PlaceRules
 pub mod PartLaws
+pub mod BlockLaws
 pub mod Examples

@@ -8,8 +8,8 @@ use lib.ListN.{length, take, drop, length-drop, drop-of-length-le}
 use lib.Seq.{take-all, take-nil}
 use lib.Dec.{eqb}
 use borrow.Author.Tests.{eq-eqb, eqb-true}
-use Rattle.text.specs.Choice.{pick}
 use Rattle.text.specs.Part.{partOf, sameBytes, Same}
+use Rattle.text.proofs.Tests.{both}
 
 -- a part that ends where it starts, or starts past the end, is empty
 pub part-none : (s : List ℕ) (start end : ℕ) → end ≤ start → [] ≡ partOf s start end
@@ -35,10 +35,6 @@ unfolding sameBytes
 same-refl [] = refl
 same-refl (x ∷ a) = rw (eq-eqb x x refl) (same-refl a)
 
-head-by : (t : Bool) {u : Bool} → pick t u false ≡ true → (t ≡ true) × (u ≡ true)
-head-by true e = (refl, e)
-head-by false e = absurd (let z : _≡_ {A = ℕ} 0 1 = cc in omega arith)
-
 -- and only of those
 pub same-eq : (a b : List ℕ) → sameBytes a b ≡ true → a ≡ b
 unfolding sameBytes
@@ -46,7 +42,7 @@ same-eq [] [] e = refl
 same-eq [] (y ∷ b) e = absurd (let z : _≡_ {A = ℕ} 0 1 = cc in omega arith)
 same-eq (x ∷ a) [] e = absurd (let z : _≡_ {A = ℕ} 0 1 = cc in omega arith)
 same-eq (x ∷ a) (y ∷ b) e =
-    let h = head-by (eqb x y) e in
+    let h = both (eqb x y) e in
     let p : x ≡ y = eqb-true x y (h .0) in
     let q : a ≡ b = same-eq a b (h .1) in
     cc

@@ -2,7 +2,7 @@
 use Prim.Native.Nat.{ℕ, _<_, _≤_}
 use lib.Dec.{ltb, leb, eqb}
 use mathlib.Core.Path.{_≡_, refl, sym, _∙_}
-use mathlib.Core.Bool.{Bool, true, false}
+use mathlib.Core.Bool.{Bool, true, false, false≢true}
 use borrow.Author.Needs.{needs}
 use borrow.Author.Tests.{lt-ltb, le-ltb, le-leb, lt-leb, eq-eqb, ne-eqb}
 use Rattle.text.specs.Choice.{pick, within}
@@ -18,6 +18,11 @@ picked P false f g = g refl
 pub pick-same : {A : Type 0} (t : Bool) (a : A) → pick t a a ≡ a
 pick-same true a = refl
 pick-same false a = refl
+
+-- where of two tests the second is asked only if the first holds, both hold
+pub both : (t : Bool) {u : Bool} → pick t u false ≡ true → (t ≡ true) × (u ≡ true)
+both true e = (refl, e)
+both false e = absurd (false≢true e)
 
 -- one test of a definition, as the code decided it: on numbers, or by a callee's answer r, which is the test by the callee's contract
 pub lt-yes : {A : Type 0} (m n : ℕ) (a b : A) {x : A} → m < n → x ≡ a → x ≡ pick (ltb m n) a b

@@ -5,3 +5,4 @@ pub mod Utf8
 pub mod White
 pub mod Place
 pub mod Part
+pub mod Block

@@ -9,6 +9,10 @@ use Rattle.text.specs.Choice.{pick, within}
 use Rattle.text.specs.declared.utf8.Decoded.{Decoded}
 use Rattle.text.specs.declared.utf8.Decoded.the-variants.{Char, Bad, End}
 
+-- a byte that is a character by itself (0xxxxxxx)
+unfoldable pub isAscii : ℕ → Bool
+isAscii b = ltb b 0x80
+
 -- how many bytes a sequence has, by its first: 0xxxxxxx, 110xxxxx, 1110xxxx, 11110xxx; 0 of any other byte, which starts none
 unfoldable pub sequenceLength : ℕ → ℕ
 sequenceLength a =

@@ -1,8 +1,9 @@
 // One character of UTF-8 (RFC 3629) at an offset, and the row of them from the start. It stands for the Rust's Peekable<Chars>.
 ghost use mathlib.Core.Path.{_≡_};
 ghost use lib.ListN.{getD};
-ghost use Rattle.text.specs.Utf8.{sequenceLength, isTail, isSecond, two, three, four, decodeAt, chars, rowEnd};
+ghost use Rattle.text.specs.Utf8.{isAscii, sequenceLength, isTail, isSecond, two, three, four, decodeAt, chars, rowEnd};
 ghost use Rattle.text.specs.Choice.{within};
+ghost use Rattle.text.specs.Block.{block, Row};
 ghost use Rattle.text.specs.Rfc3629.{Stands};
 
 // What stands at an offset: a character and the offset past it, no character, or the end of the bytes.
@@ -160,12 +161,44 @@ pub fn decode(s: &[u8], at: usize) -> Decoded
     Decoded::Bad
 }
 
+// Are there eight bytes at an offset, each below 0x80? No test waits for another, so that the machine makes all at once.
+fn eight_ascii(s: &[u8], at: usize) -> bool
+    ensures { λ r. ⌜ r ≡ block isAscii (now (s .entry)) at ⌝ }
+{
+    let len = s.len();
+    if len < 8 {
+        return false;
+    }
+    if len - 8 < at {
+        return false;
+    }
+    !((0x80 <= s[at])
+        | (0x80 <= s[at + 1])
+        | (0x80 <= s[at + 2])
+        | (0x80 <= s[at + 3])
+        | (0x80 <= s[at + 4])
+        | (0x80 <= s[at + 5])
+        | (0x80 <= s[at + 6])
+        | (0x80 <= s[at + 7]))
+}
+
+// Behind blocks of eight bytes below 0x80 that stand in a row from an offset on.
+fn ascii_blocks(s: &[u8], from: usize) -> usize
+    ensures { λ r. ⌜ Row isAscii (now (s .entry)) from r ⌝ }
+{
+    let mut at = from;
+    while eight_ascii(s, at) {
+        at = at + 8;
+    }
+    at
+}
+
 // The offset behind the characters of s that stand in a row from its start. A byte below 0x80 is one by itself, and for speed read
 // in place.
 pub fn row_end(s: &[u8]) -> usize
     ensures { λ r. ⌜ r ≡ rowEnd 0 (chars (now (s .entry)) 0) ⌝ }
 {
-    let mut at: usize = 0;
+    let mut at = ascii_blocks(s, 0);
     while at < s.len() {
         if s[at] < 0x80 {
             at = at + 1;
@@ -173,7 +206,7 @@ pub fn row_end(s: &[u8]) -> usize
             let d = decode(s, at);
             match d {
                 Decoded::Char { code: _, next } => {
-                    at = next;
+                    at = ascii_blocks(s, next);
                 }
                 Decoded::Bad => {
                     return at;

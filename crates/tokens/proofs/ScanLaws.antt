@@ -32,9 +32,11 @@ use Rattle.text.proofs.WhiteLaws.{none-above}
 use Rattle.text.proofs.Utf8Rules.{stands}
 use Rattle.text.proofs.Utf8Laws.{decode-on}
 use Rattle.text.proofs.CharLaws.{char-inside, chars-char, chars-bad, chars-end}
+use Rattle.text.specs.Block.{Row}
+use Rattle.text.proofs.BlockLaws.{over-row}
 use Rattle.text.proofs.StepLaws.{Stepped, Stopped, step-next, step-stop}
 use Rattle.tokens.specs.Ascii.{isDigit, isAlpha, isWordStart, isWordPart}
-use Rattle.tokens.specs.Scan.{passed, triviaMode, trivia, quoted, withDigit, digits}
+use Rattle.tokens.specs.Scan.{passed, isPlain, triviaMode, trivia, quoted, withDigit, digits}
 use Rattle.tokens.specs.declared.scan.Quoted.{Quoted}
 use Rattle.tokens.specs.declared.scan.Quoted.the-variants.{Closed, Unterminated}
 use Rattle.tokens.specs.declared.scan.Run.{Run}
@@ -437,7 +439,8 @@ not-white {c} h k =
     (omega arith, (omega arith, (omega arith, (omega arith, (omega arith, (omega arith, (omega arith, (omega arith, (omega arith, tt)))))))))))
 
 -- the plain bytes of a comment, and the bytes of most tokens' first characters, by what a callee answered
-plain : {b : ℕ} {r : Bool} → r ≡ pick (eqb b 0x0A) false (ltb b 0x80) → not r ≡ false → (b < 0x80) × (b ≡ 0x0A → ⊥)
+plain : {b : ℕ} {r : Bool} → r ≡ isPlain b → not r ≡ false → (b < 0x80) × (b ≡ 0x0A → ⊥)
+unfolding isPlain
 plain {b} {r} e h =
     picked (λ (t : Bool). t ≡ true → (b < 0x80) × (b ≡ 0x0A → ⊥)) (eqb b 0x0A) (λ m n. absurd (false≢true n))
     (λ m n. (ltb-true b 0x80 n, eqb-false b 0x0A m)) (sym e ∙ not-false r h)
@@ -452,10 +455,6 @@ pub passed-begin : (class : ℕ → Bool) (s : List ℕ) (at line column : ℕ) 
     passed class (place at line (counted (column + (at - at)))) (chars s at) ≡ passed class (place at line column) (chars s at)
 passed-begin class s at line column h = rw (counted-none column at h)
 
-pub plain-begin : (s : List ℕ) (at line column : ℕ) → column ≤ 4294967295 →
-    trivia 1 (place at line (counted (column + (at - at)))) (chars s at) ≡ trivia 1 (place at line column) (chars s at)
-plain-begin s at line column h = rw (counted-none column at h)
-
 pub plain-stop : (s : List ℕ) (first at line column : ℕ) {start : Place} {up : ℕ} →
     trivia 1 (place at line (counted (column + (at - first)))) (chars s at) ≡ start → up ≡ counted (column + (at - first)) →
     trivia 1 (place at line up) (chars s at) ≡ start
@@ -464,7 +463,7 @@ plain-stop s first at line column i u = rw u i
 -- over the plain bytes of a comment that begin at the offset first; the column is counted from there
 module _ (s : List ℕ) (first at line column : ℕ) {start : Place} (l : first ≤ at)
     (i : trivia 1 (place at line (counted (column + (at - first)))) (chars s at) ≡ start) {b : ℕ} (e : b ≡ getD s at 0x80) {r : Bool}
-    (f : r ≡ pick (eqb b 0x0A) false (ltb b 0x80)) (h : not r ≡ false) where
+    (f : r ≡ isPlain b) (h : not r ≡ false) where
   pub plain-on : trivia 1 (place (at + 1) line (counted (column + (at + 1 - first)))) (chars s (at + 1)) ≡ start
   plain-on =
       let k = plain f h in
@@ -476,6 +475,18 @@ module _ (s : List ℕ) (first at line column : ℕ) {start : Place} (l : first 
 
   pub plain-fits : length s < 2 ^ 64 → Fits w64 (at + 1)
   plain-fits = next-fits s at e (plain f h .0)
+
+-- the comment from an offset, the column counted from the offset first, ends where it does from there
+abbrev pub CommentFrom : List ℕ → ℕ → ℕ → ℕ → ℕ → Type 0
+CommentFrom s first line column at =
+    (first ≤ at) × (trivia 1 (place at line (counted (column + (at - first)))) (chars s at) ≡ trivia 1 (place first line column) (chars s first))
+
+-- so it does behind a row of plain bytes
+pub plain-row : (s : List ℕ) (first line column at : ℕ) → column ≤ 4294967295 → Row isPlain s first at → CommentFrom s first line column at
+plain-row s first line column at h row =
+    over-row isPlain s (CommentFrom s first line column)
+    (λ n l k i. (omega arith, plain-on s first n line column (i .0) (i .1) (any-default s n l) (sym k) refl)) first at row
+    (omega arith, rw (counted-none column first h))
 
 -- over a comment: from p over its plain bytes to q
 module _ (s : List ℕ) (p q : Place) {start : Place} (i : trivia 1 p (chars s (p .at)) ≡ start)

@@ -14,6 +14,10 @@ use Rattle.tokens.specs.declared.scan.Quoted.the-variants.{Closed, Unter
 use Rattle.tokens.specs.declared.scan.Run.{Run}
 use Rattle.tokens.specs.declared.scan.Run.the-variants.{Number, TooLarge}
 
+-- a byte that is a character by itself, and not LF
+unfoldable pub isPlain : ℕ → Bool
+isPlain b = pick (eqb b 0x0A) false (ltb b 0x80)
+
 -- behind the characters of a class that stand in a row
 unfoldable pub passed : (ℕ → Bool) → Place → List Character → Place
 passed class p [] = p

@@ -6,14 +6,15 @@ use text::place::Step;
 use text::place::count_up;
 ghost use mathlib.Core.Path.{_≡_};
 ghost use mathlib.Core.Bool.{false};
-ghost use lib.Dec.{ltb, eqb};
+ghost use lib.Dec.{ltb};
 ghost use lib.ListN.{getD};
 ghost use Prim.Native.Nat.{_*_, _+_, _-_, _≤_};
 ghost use Rattle.text.specs.Choice.{pick};
+ghost use Rattle.text.specs.Block.{block, Row};
 ghost use Rattle.text.specs.Utf8.{chars};
 ghost use Rattle.text.specs.Place.{counted, stepOf};
 ghost use Rattle.tokens.specs.Ascii.{isAlpha, isWordPart};
-ghost use Rattle.tokens.specs.Scan.{passed, trivia, quoted, digits};
+ghost use Rattle.tokens.specs.Scan.{passed, isPlain, trivia, quoted, digits};
 
 fn wide(b: u8) -> u32
     ensures { λ r. ⌜ r ≡ b ⌝ }
@@ -93,12 +94,44 @@ pub fn peek(s: &[u8], p: Place) -> Step
 
 // Is this byte a character by itself, and not LF?
 fn is_plain(b: u32) -> bool
-    ensures { λ r. ⌜ r ≡ pick (eqb b 0x0A) false (ltb b 0x80) ⌝ }
+    ensures { λ r. ⌜ r ≡ isPlain b ⌝ }
 {
     if b == 0xA {
         return false;
     }
     b < 0x80
+}
+
+// Are there eight plain bytes at an offset? As in text::utf8, all are tested at once.
+fn eight_plain(s: &[u8], at: usize) -> bool
+    ensures { λ r. ⌜ r ≡ block isPlain (now (s .entry)) at ⌝ }
+{
+    let len = s.len();
+    if len < 8 {
+        return false;
+    }
+    if len - 8 < at {
+        return false;
+    }
+    !(((s[at] == 0xA) | (0x80 <= s[at]))
+        | ((s[at + 1] == 0xA) | (0x80 <= s[at + 1]))
+        | ((s[at + 2] == 0xA) | (0x80 <= s[at + 2]))
+        | ((s[at + 3] == 0xA) | (0x80 <= s[at + 3]))
+        | ((s[at + 4] == 0xA) | (0x80 <= s[at + 4]))
+        | ((s[at + 5] == 0xA) | (0x80 <= s[at + 5]))
+        | ((s[at + 6] == 0xA) | (0x80 <= s[at + 6]))
+        | ((s[at + 7] == 0xA) | (0x80 <= s[at + 7])))
+}
+
+// Behind blocks of eight plain bytes that stand in a row from an offset on.
+fn plain_blocks(s: &[u8], from: usize) -> usize
+    ensures { λ r. ⌜ Row isPlain (now (s .entry)) from r ⌝ }
+{
+    let mut at = from;
+    while eight_plain(s, at) {
+        at = at + 8;
+    }
+    at
 }
 
 // In a comment, behind the plain bytes that stand in a row: the comment goes on from there. The loop counts the offset only.
@@ -108,7 +141,7 @@ fn plain_end(s: &[u8], from: Place) -> Place
     let start = from.at;
     let line = from.line;
     let column = from.column;
-    let mut at = start;
+    let mut at = plain_blocks(s, start);
     loop {
         if !is_plain(octet(s, at)) {
             return Place {

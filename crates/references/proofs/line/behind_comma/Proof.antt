@@ -11,5 +11,7 @@ behind-comma-spec =
     (λ c. search needs)
     (λ c. search reading)
     (λ c. search needs)
-    (λ c κs. search needs)
+    (λ c. search needs)
+    (λ c. search needs)
+    (λ c. search needs)
     (λ c. search reading))

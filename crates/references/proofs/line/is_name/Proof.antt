@@ -12,6 +12,4 @@ is-name-spec =
     (λ c. search reading)
     (λ c. search reading)
     (λ c κs. search needs)
-    (λ c. search reading)
-    (λ c κs. search needs)
     (λ c. search reading))

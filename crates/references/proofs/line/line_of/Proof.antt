@@ -1,3 +1,6 @@
+use mathlib.Core.Path.{sym}
+use native.Mathlib.Omega.{arith}
+use lib.Seq.{length-take-le}
 use borrow.Author.Needs.{needs}
 use Rattle.references.specs.Line.{lineOf}
 use Rattle.references.proofs.LineLaws.{reading}
@@ -11,8 +14,10 @@ line-of-spec =
     (tie.spec
     (λ c κs. search needs)
     (λ c. search reading)
-    (λ c κs. search needs)
+    (λ c. let h = c .before .if1 .left in sym (length-take-le _ _ (omega arith)))
     (λ c. search needs)
-    (λ c κs. search needs)
+    (λ c. search needs)
+    (λ c. search needs)
+    (λ c. search needs)
     (λ c κs. search needs)
     (λ c. search reading))

@@ -1,3 +1,6 @@
+use mathlib.Core.Path.{sym}
+use native.Mathlib.Omega.{arith}
+use lib.Seq.{length-take-le}
 use borrow.Author.Needs.{needs}
 use Rattle.references.specs.Line.{rowOf}
 use Rattle.references.proofs.LineLaws.{reading}
@@ -12,14 +15,18 @@ row-of-spec =
     (λ c κs. search needs)
     (λ c. search reading)
     (λ c. search needs)
-    (λ c κs. search needs)
-    (λ c κs. search needs)
-    (λ c. search reading)
-    (λ c κs. search needs)
-    (λ c κs. search needs)
-    (λ c κs. search needs)
-    (λ c κs. search needs)
+    (λ c. search needs)
+    (λ c. search needs)
     (λ c. search needs)
     (λ c κs. search needs)
+    (λ c. search reading)
+    (λ c. let h = c .before .before .before .before .if1 .left in sym (length-take-le _ _ (omega arith)))
+    (λ c κs. search needs)
+    (λ c. let h = c .before .before .before .if2 .left in sym (length-take-le _ _ (omega arith)))
+    (λ c κs. search needs)
+    (λ c. search needs)
+    (λ c. search needs)
+    (λ c. search needs)
+    (λ c. search needs)
     (λ c κs. search needs)
     (λ c. search reading))

@@ -1,6 +1,5 @@
 use borrow.Author.Needs.{needs}
-use denote.Ref.{now}
-use Rattle.references.proofs.ResolveLaws.{unnamed}
+use Rattle.references.proofs.ResolveLaws.{lookups}
 use Rattle.references.proofs.resolve.with_line.Statement.{statement}
 use Rattle.references.proofs.resolve.with_line.Tie as tie
 
@@ -9,7 +8,16 @@ with-line-spec =
     tie.close
     (tie.spec
     (λ c κs. search needs)
-    (λ c κs. search needs)
     (λ c. search needs)
-    (λ c. let a = c .before .before .before .before .args in
-    unnamed (a .kind) (now (a .name)) (a .scope) (a .t) (now (a .l)) (c .before .ends-with .ensures) (c .if1 .left)))
+    (λ c. search lookups depth 12)
+    (λ c κs. search needs)
+    (λ c κs. search needs)
+    (λ c κs. search needs)
+    (λ c. search lookups depth 12)
+    (λ c. search needs)
+    (λ c. search needs)
+    (λ c. search needs)
+    (λ c. search lookups depth 12)
+    (λ c. search lookups depth 12)
+    (λ c. search lookups depth 12)
+    (λ c. search lookups depth 12))

@@ -5,6 +5,7 @@ use native.Mathlib.Omega.{arith}
 use borrow.Author.Needs.{needs}
 use Rattle.bytes.specs.Bytes.{indexOf}
 use Rattle.text.specs.Part.{partOf}
+use Rattle.references.specs.Find.{firstAt}
 use Rattle.references.specs.Line.{hasComma, lineOf}
 use Rattle.references.specs.Sheet.{lines, lineEnd, primaryBy, primaryLine, namesOf}
 use Rattle.references.specs.declared.line.Line.{Line}
@@ -14,7 +15,7 @@ use Rattle.references.proofs.sheet.primary.Tie as tie
 
 -- the line at the start is the first; of an empty sheet it is empty, and says nothing
 first : (s : List ℕ) → namesOf s .primary ≡ primaryBy (lineOf (partOf s 0 (lineEnd s 0)))
-unfolding namesOf primaryLine lines lineEnd partOf lineOf hasComma indexOf
+unfolding namesOf primaryLine lines lineEnd firstAt partOf lineOf hasComma indexOf
 first [] = refl
 first (c ∷ s) = ap primaryLine (lines-on (c ∷ s) 0 (omega arith))
 

@@ -4,11 +4,14 @@ use Prim.Native.Nat.{ℕ, _+_, _-_, _<_, _≤_}
 use native.Mathlib.Omega.{arith}
 use lib.ListN.{length, getD}
 use borrow.Author.Needs.{needs}
-use Rattle.text.specs.Utf8.{decodeAt, chars, rowEnd}
+use borrow.Author.Tests.{ltb-true}
+use Rattle.text.specs.Utf8.{isAscii, decodeAt, chars, rowEnd}
 use Rattle.text.specs.declared.utf8.Decoded.{Decoded}
 use Rattle.text.specs.declared.utf8.Decoded.the-variants.{Char, Bad, End}
 use Rattle.text.proofs.Utf8Laws.{decode-end, decode-byte}
 use Rattle.text.proofs.CharLaws.{char-inside, chars-char, chars-bad, chars-end}
+use Rattle.text.specs.Block.{Row}
+use Rattle.text.proofs.BlockLaws.{over-row}
 use Rattle.text.proofs.utf8.row_end.Statement.{statement}
 use Rattle.text.proofs.utf8.row_end.Tie as tie
 
@@ -47,8 +50,14 @@ module _ (s : List ℕ) (at : ℕ) {e : ℕ} (i : rowEnd at (chars s at) ≡ e) 
     row-end : a ≡ End → at ≡ e
     row-end m = row-stop (chars-end s at (sym d ∙ m))
 
-less-left : (s : List ℕ) (at : ℕ) {a : Decoded} {c n : ℕ} → a ≡ decodeAt s at → a ≡ Char c n → length s - n < length s - at
-less-left s at {c = c} {n = n} d m =
+-- the row goes on behind bytes below 0x80
+row-ascii : (s : List ℕ) (from at : ℕ) {e : ℕ} → Row isAscii s from at → rowEnd from (chars s from) ≡ e → rowEnd at (chars s at) ≡ e
+unfolding isAscii
+row-ascii s from at {e} =
+    over-row isAscii s (λ (n : ℕ). rowEnd n (chars s n) ≡ e) (λ n h k i. row-byte s n i h (ltb-true (getD s n 0) 0x80 k)) from at
+
+less-left : (s : List ℕ) (at : ℕ) {a : Decoded} {c n r : ℕ} → a ≡ decodeAt s at → a ≡ Char c n → n ≤ r → length s - r < length s - at
+less-left s at {c = c} {n = n} d m l =
     let h = char-inside s at c n (sym d ∙ m) in
     omega arith
 
@@ -58,15 +67,17 @@ row-end-spec =
     (tie.spec
     Inv-loop
     μ-loop
-    (λ c. refl)
+    (λ c κs. search needs)
+    (λ c. row-ascii _ _ _ (c .ascii-blocks .ensures) refl)
     (λ c. search needs)
     (λ c. search needs)
     (λ c. search needs)
     (λ c. search (needs, row-byte))
     (λ c κs. search needs)
     (λ c. search needs)
+    (λ c κs. search needs)
     (λ c. search (needs, less-left))
-    (λ c. search (needs, row-next))
+    (λ c. row-ascii _ _ _ (c .ascii-blocks2 .ensures) (search (needs, row-next)))
     (λ c. search needs)
     (λ c. row-bad _ _ (c .before .before .before .before .before .before .loop .inv) (c .before .before .decode .ensures .0) (c .enum-told .given .1))
     (λ c. search needs)

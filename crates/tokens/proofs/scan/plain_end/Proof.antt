@@ -1,18 +1,13 @@
-use mathlib.Core.Path.{_≡_}
-use Prim.Native.Nat.{_+_, _-_, _≤_}
+use Prim.Native.Nat.{_-_}
 use lib.ListN.{length}
 use borrow.Author.Needs.{needs}
-use Rattle.text.specs.Utf8.{chars}
-use Rattle.text.specs.Place.{counted}
-use Rattle.tokens.specs.Scan.{trivia}
-use Rattle.tokens.proofs.ScanLaws.{place, plain-begin, plain-stop, plain-on, scans}
+use Rattle.tokens.proofs.ScanLaws.{CommentFrom, plain-row, plain-stop, plain-on, scans}
 use Rattle.tokens.proofs.scan.plain_end.Statement.{statement}
 use Rattle.tokens.proofs.scan.plain_end.Tie as tie
 
 -- the comment from here, where so many bytes have been passed, ends where it does from the start
 abbrev Inv-loop : tie.InvT-loop
-Inv-loop s start line column at₀ at =
-    (start ≤ at) × (trivia 1 (place at line (counted (column + (at - start)))) (chars s at) ≡ trivia 1 (place start line column) (chars s start))
+Inv-loop s start line column at₀ at = CommentFrom s start line column at
 
 abbrev μ-loop : tie.MeasureT-loop
 μ-loop s start line column at₀ at = length s - at
@@ -23,7 +18,8 @@ plain-end-spec =
     (tie.spec
     Inv-loop
     μ-loop
-    (λ c. (search needs, plain-begin _ _ _ _ (search needs)))
+    (λ c κs. search needs)
+    (λ c. plain-row _ _ _ _ _ (search needs) (c .plain-blocks .ensures))
     (λ c κs. search needs)
     (λ c κs. search needs)
     (λ c. search needs)
