@@ -11,7 +11,7 @@ use Rattle.tokens.specs.declared.cursor.Cursor.{Cursor}
 use Rattle.tokens.specs.declared.cursor.Refusal.{Refusal}
 use Rattle.tokens.specs.declared.cursor.Accepted.{Accepted}
 use Rattle.tokens.specs.declared.cursor.Accepted.the-variants.{Yes, Left}
-use Rattle.sections.specs.Section.{repeated}
+use Rattle.language.specs.Section.{repeated}
 
 -- entries xs before those that are answered
 abbrev pub onto : {A : Type 0} → List A → Res (List A) → Res (List A)

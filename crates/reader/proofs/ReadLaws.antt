@@ -16,26 +16,30 @@ use Rattle.text.specs.Place.{checkOf}
 use Rattle.text.specs.declared.place.Checked.{Checked}
 use Rattle.text.specs.declared.place.Checked.the-variants.{WellFormed, IllFormed}
 use Rattle.tokens.specs.Result.{Res, ok, no}
-use Rattle.tokens.specs.Record.{capacity, lineAt, columnAt}
+use Rattle.tokens.specs.Record.{recordSize, capacity, lineAt, columnAt}
 use Rattle.tokens.specs.Cursor.{tokens}
-use Rattle.tokens.specs.Lex.{Lexing, lexText, answerFrom, writtenFrom, lexAnswer, lexWords}
+use Rattle.tokens.specs.Lex.{Lexing, ended, refused, token, lexText, answerFrom, writtenFrom, lexAnswer, lexWords, mostTokens, mostBytes, leastWords}
 use Rattle.tokens.specs.declared.cursor.Refusal.{Refusal}
 use Rattle.tokens.specs.declared.lexer.Lexed.{Lexed}
 use Rattle.tokens.specs.declared.lexer.Lexed.the-variants.{Tokens, Refused}
-use Rattle.references.specs.Sheet.{Names, namesOf, viewOf, sheetCheck}
-use Rattle.references.specs.declared.sheet.Sheet.{Sheet}
-use Rattle.sections.specs.Range.{rangeOf}
-use Rattle.sections.specs.Section.{Lists, ruleAt}
-use Rattle.sections.specs.Read.{triggersOf, conditionsOf, acceptedWith, refusedWith, recordWords, tokenLine, tokenColumn, parsed, ruleOf, lexedFrom, byText, bySheet, Outcome, readOf}
-use Rattle.sections.specs.Demand.{Ended, Exact}
-use Rattle.sections.specs.declared.lists.Triggers.{Triggers}
-use Rattle.sections.specs.declared.lists.Conditions.{Conditions}
-use Rattle.sections.specs.declared.lists.Answer.{Answer}
-use Rattle.sections.proofs.Theorem.{lexed-complete, few, exact}
-use Rattle.reader.specs.Parts.{toRule, placed, answered, lexedBy, textOutcome, sheetOutcome}
+use Rattle.sheet.specs.Sheet.{sheetCheck}
+use Rattle.sheet.specs.View.{View, viewOf, settingsOf}
+use Rattle.sheet.specs.declared.Settings.{Settings}
+use Rattle.sheet.specs.declared.rows.Sheet.{Sheet}
+use Rattle.language.specs.Range.{rangeOf}
+use Rattle.language.specs.Section.{Lists, ruleAt}
+use Rattle.tokens.specs.Ended.{Ended, recordWords, tokenLine, tokenColumn}
+use Rattle.model.specs.Lists.{triggersOf, conditionsOf, acceptedWith, refusedWith}
+use Rattle.language.specs.Read.{parsed, ruleOf, lexedFrom, byText, bySheet, Outcome, seen, readOf}
+use Rattle.language.specs.Demand.{Exact}
+use Rattle.model.specs.declared.Triggers.{Triggers}
+use Rattle.model.specs.declared.Conditions.{Conditions}
+use Rattle.model.specs.declared.Answer.{Answer}
+use Rattle.language.proofs.Theorem.{lexed-complete, few, exact}
+use Rattle.reader.specs.Parts.{toRule, placed, answered}
 use Rattle.reader.specs.declared.parts.Rule.{Rule}
 use Rattle.reader.proofs.RuleLaws.{one-answer}
-use Rattle.reader.proofs.BufferLaws.{buffer-size, records-count, line-in, column-in, end-line, end-column, line-past, column-past, answer-ended, answer-refused, buffer-records}
+use Rattle.tokens.proofs.BufferLaws.{buffer-size, records-count, line-in, column-in, end-line, end-column, line-past, column-past, answer-ended, Refused-at, answer-refused, buffer-records}
 
 -- the place in the records is the token's or the end's
 placed-parsed : {l : Lexing} {n : ℕ} → Ended l n → (r : Refusal) → placed (recordWords l) (end-line l) (end-column l) r ≡ parsed l (no r)
@@ -58,39 +62,46 @@ unfolding answered parsed
 answered-parsed e (ok lists i) = refl
 answered-parsed e (no r) = placed-parsed e r
 
+-- questions 1 and 2 are passed
+abbrev pub Asked : List ℕ → List ℕ → Type 0
+Asked text words = (length text ≤ mostBytes) × (leastWords ≤ length words)
+
+-- what is answered once the text is lexed into these words
+abbrev lexedBy : List ℕ → View → List ℕ → Lexed → Answer
+lexedBy text view words (Tokens count line column) =
+    answered (take (count * recordSize) words) line column (ruleOf text (take (count * recordSize) words) view)
+lexedBy text view words (Refused number line column) = refusedWith number line column 0
+
+-- a lexing that was refused answers so, too
+refused-same : (text : List ℕ) (view : View) (whole l : Lexing) (number line column : ℕ) → Refused-at number line column l →
+    refusedWith number line column 0 ≡ lexedFrom text view whole l
+unfolding lexedFrom
+refused-same text view whole (ended p) number line column r = absurd r
+refused-same text view whole (refused n p) number line column r = rw (r .0, r .1, r .2)
+refused-same text view whole (token r l) number line column h = refused-same text view whole l number line column h
+
 -- lexed into a buffer with room, and parsed from it
-module _ (text sheet words : List ℕ) (short : length text ≤ 16384) (room : 6144 ≤ length words) where
+module _ (text : List ℕ) (view : View) (words : List ℕ) (short : length text ≤ mostBytes) (room : leastWords ≤ length words) where
   by-answer : (x : Lexed) → answerFrom 0 (lexText text) ≡ x →
-      lexedBy text sheet (writtenFrom 0 words (lexText text)) x ≡ lexedFrom text sheet (lexText text) (lexText text)
-  unfolding lexedBy
-  by-answer (Refused number line column) e = sym (answer-refused text sheet (lexText text) 0 (lexText text) e)
+      lexedBy text view (writtenFrom 0 words (lexText text)) x ≡ lexedFrom text view (lexText text) (lexText text)
+  by-answer (Refused number line column) e = refused-same text view (lexText text) (lexText text) number line column (answer-refused 0 (lexText text) e)
   by-answer (Tokens count line column) e =
       let a = answer-ended 0 (lexText text) e in
       let n = a .0 in
       let same : n ≡ count = let s = a .2 in omega arith in
-      let fits : n * 6 ≤ length words = let f = few text (a .1) in omega arith in
-      let records : take (count * 6) (writtenFrom 0 words (lexText text)) ≡ recordWords (lexText text) =
+      let fits : n * recordSize ≤ length words = let f = few text (a .1) in omega arith in
+      let records : take (count * recordSize) (writtenFrom 0 words (lexText text)) ≡ recordWords (lexText text) =
       rw (← same) (buffer-records words (a .1) fits) in
-      rw (records, a .3, a .4) (answered-parsed (a .1) (ruleOf text (recordWords (lexText text)) sheet)) ∙
-      sym (lexed-complete text sheet (lexText text) (a .1))
+      rw (records, a .3, a .4) (answered-parsed (a .1) (ruleOf text (recordWords (lexText text)) view)) ∙
+      sym (lexed-complete text view (lexText text) (a .1))
 
-  lexed-same : lexedBy text sheet (lexWords text words) (lexAnswer text words) ≡ lexedFrom text sheet (lexText text) (lexText text)
+  pub lexed-same : lexedBy text view (lexWords text words) (lexAnswer text words) ≡ lexedFrom text view (lexText text) (lexText text)
   unfolding lexAnswer lexWords
-  lexed-same = rw (le-ltb 16384 (length text) short, le-ltb (length words) 6144 room) (by-answer (answerFrom 0 (lexText text)) refl)
+  lexed-same = rw (le-ltb mostBytes (length text) short, le-ltb (length words) leastWords room) (by-answer (answerFrom 0 (lexText text)) refl)
 
-  words-same : lexWords text words ≡ writtenFrom 0 words (lexText text)
-  unfolding lexWords
-  words-same = rw (le-ltb 16384 (length text) short, le-ltb (length words) 6144 room)
-
-  text-same : (c : Checked) → textOutcome text sheet words c ≡ byText text sheet words c
-  unfolding textOutcome byText
-  text-same WellFormed = rw (lexed-same, words-same)
-  text-same (IllFormed line column) = refl
-
-  pub sheet-same : (x : Sheet) → sheetOutcome text sheet words x ≡ bySheet text sheet words x
-  unfolding sheetOutcome bySheet
-  sheet-same Sheet.WellFormed = text-same (checkOf text)
-  sheet-same (Sheet.BadLine n) = refl
+words-same : (text words : List ℕ) → length text ≤ mostBytes → leastWords ≤ length words → lexWords text words ≡ writtenFrom 0 words (lexText text)
+unfolding lexWords
+words-same text words short room = rw (le-ltb mostBytes (length text) short, le-ltb (length words) leastWords room)
 
 -- an answer with tokens passed a question
 abbrev is-tokens : Lexed → Bool
@@ -103,31 +114,31 @@ passed true number x e = absurd (let p = ap is-tokens e in let z : _≡_ {A = �
 passed false number x e = (refl, e)
 
 -- at most 1,024 records are counted, and they are in the buffer
-counted-few : (text words : List ℕ) {count line column : ℕ} → lexAnswer text words ≡ Tokens count line column → count ≤ 1024
+counted-few : (text words : List ℕ) {count line column : ℕ} → lexAnswer text words ≡ Tokens count line column → count ≤ mostTokens
 unfolding lexAnswer
 counted-few text words e =
-    let p = passed (ltb 16384 (length text)) 1 _ e in
-    let q = passed (ltb (length words) 6144) 2 _ (p .1) in
+    let p = passed (ltb mostBytes (length text)) 1 _ e in
+    let q = passed (ltb (length words) leastWords) 2 _ (p .1) in
     let a = answer-ended 0 (lexText text) (q .1) in
     let f = few text (a .1) in
     let s = a .2 in
     omega arith
 
 counted-records : (text words : List ℕ) {count line column : ℕ} → lexAnswer text words ≡ Tokens count line column →
-    count * 6 ≤ length words
+    count * recordSize ≤ length words
 unfolding lexAnswer
 counted-records text words e =
-    let p = passed (ltb 16384 (length text)) 1 _ e in
-    let q = passed (ltb (length words) 6144) 2 _ (p .1) in
+    let p = passed (ltb mostBytes (length text)) 1 _ e in
+    let q = passed (ltb (length words) leastWords) 2 _ (p .1) in
     let f = counted-few text words e in
-    let r = ltb-false (length words) 6144 (q .0) in
+    let r = ltb-false (length words) leastWords (q .0) in
     omega arith
 
 -- The code's steps. The lexer's answer x, and the buffer behind it:
 module _ (text words : List ℕ) {x : Lexed} (answer : x ≡ lexAnswer text words) where
   lexed-size : length (lexWords text words) ≡ length words
   unfolding lexWords
-  lexed-size = by (ltb 16384 (length text)) (ltb (length words) 6144)
+  lexed-size = by (ltb mostBytes (length text)) (ltb (length words) leastWords)
     where
       by : (a b : Bool) → length (pick a words (pick b words (writtenFrom 0 words (lexText text)))) ≡ length words
       by true b = refl
@@ -135,28 +146,40 @@ module _ (text words : List ℕ) {x : Lexed} (answer : x ≡ lexAnswer text word
       by false false = buffer-size words (lexText text)
 
   module _ {count line column : ℕ} (was : x ≡ Tokens count line column) where
-    in-words : count * 6 ≤ length words
+    in-words : count * recordSize ≤ length words
     in-words = counted-records text words (sym answer ∙ was)
 
-    pub records-fit : Fits w64 (count * 6)
+    pub records-fit : Fits w64 (count * recordSize)
     records-fit = record { fits = let f = counted-few text words (sym answer ∙ was) in omega arith }
 
-    pub records-in : {buffer : List ℕ} → buffer ≡ lexWords text words → count * 6 ≤ length buffer
+    pub records-in : {buffer : List ℕ} → buffer ≡ lexWords text words → count * recordSize ≤ length buffer
     records-in e = rw (e, lexed-size) in-words
 
-    pub records-taken : {buffer : List ℕ} → buffer ≡ lexWords text words → count * 6 ≡ length (take (count * 6) buffer)
-    records-taken {buffer} e = sym (length-take-le (count * 6) buffer (records-in e))
+    pub records-taken : {buffer : List ℕ} → buffer ≡ lexWords text words → count * recordSize ≡ length (take (count * recordSize) buffer)
+    records-taken {buffer} e = sym (length-take-le (count * recordSize) buffer (records-in e))
 
-    pub lexed-yes : (sheet : List ℕ) {buffer : List ℕ} {r : Answer} → buffer ≡ lexWords text words →
-        r ≡ answered (take (count * 6) buffer) line column (ruleOf text (take (count * 6) buffer) sheet) →
-        r ≡ lexedBy text sheet (lexWords text words) (lexAnswer text words)
-    unfolding lexedBy
-    lexed-yes sheet e h = rw (← answer, was, ← e) h
+    by-tokens : (view : View) {buffer : List ℕ} {r : Answer} → buffer ≡ lexWords text words →
+        r ≡ answered (take (count * recordSize) buffer) line column (ruleOf text (take (count * recordSize) buffer) view) →
+        r ≡ lexedBy text view (lexWords text words) (lexAnswer text words)
+    by-tokens view e h = rw (← answer, was, ← e) h
 
-  pub lexed-no : (sheet : List ℕ) {number line column : ℕ} {r : Answer} → x ≡ Refused number line column → r ≡ refusedWith number line column 0 →
-      r ≡ lexedBy text sheet (lexWords text words) (lexAnswer text words)
-  unfolding lexedBy
-  lexed-no sheet was h = rw (← answer, was) h
+    pub lexed-yes : (view : View) {buffer : List ℕ} {r : Answer} → Asked text words → buffer ≡ lexWords text words →
+        r ≡ answered (take (count * recordSize) buffer) line column (ruleOf text (take (count * recordSize) buffer) view) →
+        r ≡ lexedFrom text view (lexText text) (lexText text)
+    lexed-yes view q e h = by-tokens view e h ∙ lexed-same text view words (q .0) (q .1)
+
+  by-refusal : (view : View) {number line column : ℕ} {r : Answer} → x ≡ Refused number line column →
+      r ≡ refusedWith number line column 0 → r ≡ lexedBy text view (lexWords text words) (lexAnswer text words)
+  by-refusal view was h = rw (← answer, was) h
+
+  pub lexed-no : (view : View) {number line column : ℕ} {r : Answer} → Asked text words → x ≡ Refused number line column →
+      r ≡ refusedWith number line column 0 → r ≡ lexedFrom text view (lexText text) (lexText text)
+  lexed-no view q was h = by-refusal view was h ∙ lexed-same text view words (q .0) (q .1)
+
+-- the words behind the lexer
+pub lexed-words : (text words : List ℕ) {buffer : List ℕ} → Asked text words → buffer ≡ lexWords text words →
+    buffer ≡ writtenFrom 0 words (lexText text)
+lexed-words text words q e = e ∙ words-same text words (q .0) (q .1)
 
 -- a refusal, and its place
 pub refused-made : (number line column detail : ℕ) {triggers : Triggers} {conditions : Conditions} → triggers ≡ triggersOf [] →
@@ -176,16 +199,12 @@ module _ (words : List ℕ) (line column : ℕ) (refusal : Refusal) {count : ℕ
   unfolding placed
   placed-past h e = lt-no (refusal .token) (capacity words) _ _ (rw (← counted) h) e
 
--- the parser's answer on the records; the call's primary is the sheet's
-view-same : (sheet : List ℕ) (p : ℕ) → p ≡ namesOf sheet .primary → viewOf (record { primary = p }) sheet ≡ namesOf sheet
-unfolding viewOf namesOf
-view-same sheet p e = rw e
-
-module _ (text words sheet : List ℕ) (line column : ℕ) {p : ℕ} (primary : p ≡ namesOf sheet .primary) {rule : Rule}
-    (read : rule ≡ toRule (ruleAt (tokens text words) (viewOf (record { primary = p }) sheet) (rangeOf words) (capacity words))) where
-  rule-is : rule ≡ toRule (ruleOf text words sheet)
-  unfolding ruleOf
-  rule-is = read ∙ ap (λ (names : Names). toRule (ruleAt (tokens text words) names (rangeOf words) (capacity words))) (view-same sheet p primary)
+-- the parser's answer on the records; the call's settings are the sheet's
+module _ (text words sheet : List ℕ) (line column : ℕ) {settings : Settings} (set : settings ≡ settingsOf sheet) {rule : Rule}
+    (read : rule ≡ toRule (ruleAt (tokens text words) (viewOf settings sheet) (rangeOf words) (capacity words))) where
+  rule-is : rule ≡ toRule (ruleOf text words (seen sheet))
+  unfolding ruleOf seen
+  rule-is = read ∙ ap (λ (x : Settings). toRule (ruleAt (tokens text words) (viewOf x sheet) (rangeOf words) (capacity words))) set
 
   yes-by : (m : Res Lists) → rule ≡ toRule m → rule .accepted ≡ true →
       record { number = 0; line = 0; column = 0; detail = 0; triggers = rule .triggers; conditions = rule .conditions } ≡ answered words line column m
@@ -204,52 +223,52 @@ module _ (text words sheet : List ℕ) (line column : ℕ) {p : ℕ} (primary : 
 
   pub parsed-yes : rule .accepted ≡ true →
       record { number = 0; line = 0; column = 0; detail = 0; triggers = rule .triggers; conditions = rule .conditions } ≡
-      answered words line column (ruleOf text words sheet)
-  parsed-yes h = yes-by (ruleOf text words sheet) rule-is h
+      answered words line column (ruleOf text words (seen sheet))
+  parsed-yes h = yes-by (ruleOf text words (seen sheet)) rule-is h
 
   pub parsed-no : {a : Answer} → rule .accepted ≡ false → a ≡ placed words line column (rule .refusal) →
-      a ≡ answered words line column (ruleOf text words sheet)
-  parsed-no h w = no-by (ruleOf text words sheet) rule-is h w
+      a ≡ answered words line column (ruleOf text words (seen sheet))
+  parsed-no h w = no-by (ruleOf text words (seen sheet)) rule-is h w
 
 -- a question's answer, taken apart
-pub text-answer : (text sheet words : List ℕ) (x : Checked) {r v : Checked} {a : Answer} → r ≡ x → r ≡ v → a ≡ textOutcome text sheet words v .answer →
-    a ≡ textOutcome text sheet words x .answer
-text-answer text sheet words x e m h = rw (← e, m) h
+pub text-answer : (text : List ℕ) (view : View) (words : List ℕ) (x : Checked) {r v : Checked} {a : Answer} → r ≡ x → r ≡ v → a ≡ byText text view words v .answer →
+    a ≡ byText text view words x .answer
+text-answer text view words x e m h = rw (← e, m) h
 
-pub text-buffer : (text sheet words : List ℕ) (x : Checked) {r v : Checked} {b : List ℕ} → r ≡ x → r ≡ v → b ≡ textOutcome text sheet words v .buffer →
-    b ≡ textOutcome text sheet words x .buffer
-text-buffer text sheet words x e m h = rw (← e, m) h
+pub text-buffer : (text : List ℕ) (view : View) (words : List ℕ) (x : Checked) {r v : Checked} {b : List ℕ} → r ≡ x → r ≡ v → b ≡ byText text view words v .buffer →
+    b ≡ byText text view words x .buffer
+text-buffer text view words x e m h = rw (← e, m) h
 
-pub sheet-answer : (text sheet words : List ℕ) (x : Sheet) {r v : Sheet} {a : Answer} → r ≡ x → r ≡ v → a ≡ sheetOutcome text sheet words v .answer →
-    a ≡ sheetOutcome text sheet words x .answer
-sheet-answer text sheet words x e m h = rw (← e, m) h
+pub sheet-answer : (text : List ℕ) (view : View) (words : List ℕ) (x : Sheet) {r v : Sheet} {a : Answer} → r ≡ x → r ≡ v → a ≡ bySheet text view words v .answer →
+    a ≡ bySheet text view words x .answer
+sheet-answer text view words x e m h = rw (← e, m) h
 
-pub sheet-buffer : (text sheet words : List ℕ) (x : Sheet) {r v : Sheet} {b : List ℕ} → r ≡ x → r ≡ v → b ≡ sheetOutcome text sheet words v .buffer →
-    b ≡ sheetOutcome text sheet words x .buffer
-sheet-buffer text sheet words x e m h = rw (← e, m) h
+pub sheet-buffer : (text : List ℕ) (view : View) (words : List ℕ) (x : Sheet) {r v : Sheet} {b : List ℕ} → r ≡ x → r ≡ v → b ≡ bySheet text view words v .buffer →
+    b ≡ bySheet text view words x .buffer
+sheet-buffer text view words x e m h = rw (← e, m) h
 
 -- questions 1 and 2, and what lies behind them
 module _ (text sheet words : List ℕ) where
-  long-same : 16384 < length text → record { answer = refusedWith 1 0 0 0; buffer = words } ≡ readOf text sheet words
+  long-same : mostBytes < length text → record { answer = refusedWith 1 0 0 0; buffer = words } ≡ readOf text sheet words
   unfolding readOf
-  long-same h = rw (lt-ltb 16384 (length text) h)
+  long-same h = rw (lt-ltb mostBytes (length text) h)
 
-  small-same : length text ≤ 16384 → length words < 6144 → record { answer = refusedWith 2 0 0 0; buffer = words } ≡ readOf text sheet words
+  small-same : length text ≤ mostBytes → length words < leastWords → record { answer = refusedWith 2 0 0 0; buffer = words } ≡ readOf text sheet words
   unfolding readOf
-  small-same s h = rw (le-ltb 16384 (length text) s, lt-ltb (length words) 6144 h)
+  small-same s h = rw (le-ltb mostBytes (length text) s, lt-ltb (length words) leastWords h)
 
-  asked-same : length text ≤ 16384 → 6144 ≤ length words → sheetOutcome text sheet words (sheetCheck sheet) ≡ readOf text sheet words
+  asked-same : length text ≤ mostBytes → leastWords ≤ length words → bySheet text (seen sheet) words (sheetCheck sheet) ≡ readOf text sheet words
   unfolding readOf
-  asked-same s h = rw (le-ltb 16384 (length text) s, le-ltb (length words) 6144 h) (sheet-same text sheet words s h (sheetCheck sheet))
+  asked-same s h = rw (le-ltb mostBytes (length text) s, le-ltb (length words) leastWords h)
 
   module _ {a : Answer} where
-    pub long-answer : 16384 < length text → a ≡ refusedWith 1 0 0 0 → a ≡ readOf text sheet words .answer
+    pub long-answer : mostBytes < length text → a ≡ refusedWith 1 0 0 0 → a ≡ readOf text sheet words .answer
     long-answer h e = e ∙ ap (λ (o : Outcome). o .answer) (long-same h)
 
-    pub small-answer : length text ≤ 16384 → length words < 6144 → a ≡ refusedWith 2 0 0 0 → a ≡ readOf text sheet words .answer
+    pub small-answer : length text ≤ mostBytes → length words < leastWords → a ≡ refusedWith 2 0 0 0 → a ≡ readOf text sheet words .answer
     small-answer s h e = e ∙ ap (λ (o : Outcome). o .answer) (small-same s h)
 
-    pub asked-answer : length text ≤ 16384 → 6144 ≤ length words → a ≡ sheetOutcome text sheet words (sheetCheck sheet) .answer →
+    pub asked-answer : length text ≤ mostBytes → leastWords ≤ length words → a ≡ bySheet text (seen sheet) words (sheetCheck sheet) .answer →
         a ≡ readOf text sheet words .answer
     asked-answer s h e = e ∙ ap (λ (o : Outcome). o .answer) (asked-same s h)
 
@@ -257,12 +276,12 @@ module _ (text sheet words : List ℕ) where
     pub exactly : a ≡ readOf text sheet words .answer → Exact text sheet (length words) a
     exactly e = subst (λ (x : Answer). Exact text sheet (length words) x) (sym e) (exact text sheet words)
 
-  pub long-buffer : 16384 < length text → words ≡ readOf text sheet words .buffer
+  pub long-buffer : mostBytes < length text → words ≡ readOf text sheet words .buffer
   long-buffer h = ap (λ (o : Outcome). o .buffer) (long-same h)
 
-  pub small-buffer : length text ≤ 16384 → length words < 6144 → words ≡ readOf text sheet words .buffer
+  pub small-buffer : length text ≤ mostBytes → length words < leastWords → words ≡ readOf text sheet words .buffer
   small-buffer s h = ap (λ (o : Outcome). o .buffer) (small-same s h)
 
-  pub asked-buffer : {b : List ℕ} → length text ≤ 16384 → 6144 ≤ length words → b ≡ sheetOutcome text sheet words (sheetCheck sheet) .buffer →
+  pub asked-buffer : {b : List ℕ} → length text ≤ mostBytes → leastWords ≤ length words → b ≡ bySheet text (seen sheet) words (sheetCheck sheet) .buffer →
       b ≡ readOf text sheet words .buffer
   asked-buffer s h e = e ∙ ap (λ (o : Outcome). o .buffer) (asked-same s h)

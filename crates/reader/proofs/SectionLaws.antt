@@ -12,21 +12,23 @@ use Rattle.tokens.specs.declared.cursor.Cursor.{Cursor}
 use Rattle.tokens.specs.declared.cursor.Refusal.{Refusal}
 use Rattle.tokens.specs.declared.cursor.Accepted.{Accepted}
 use Rattle.tokens.specs.declared.cursor.Accepted.the-variants.{Yes, Left}
-use Rattle.references.specs.Sheet.{Names}
-use Rattle.sections.specs.Trigger.{triggerAt, toTrigger}
-use Rattle.sections.specs.Condition.{conditionAt, toCondition}
-use Rattle.sections.specs.Section.{repeated}
-use Rattle.sections.specs.Read.{padded, triggersOf, conditionsOf}
+use Rattle.sheet.specs.View.{View}
+use Rattle.language.specs.Trigger.{triggerAt}
+use Rattle.sections.specs.Answers.{toTrigger}
+use Rattle.language.specs.Condition.{conditionAt}
+use Rattle.sections.specs.Answers.{toCondition}
+use Rattle.language.specs.Section.{repeated}
+use Rattle.model.specs.Lists.{padded, triggersOf, conditionsOf}
 use Rattle.sections.proofs.AnswerChain.{is-trigger, is-condition}
-use Rattle.sections.specs.declared.name.Name.{Name}
-use Rattle.sections.specs.declared.trigger.Trigger.{Trigger}
+use Rattle.model.specs.declared.Name.{Name}
+use Rattle.model.specs.declared.Trigger.{Trigger}
 use Rattle.sections.specs.declared.trigger.TriggerAnswer.{TriggerAnswer}
-use Rattle.sections.specs.declared.condition.Condition.{Condition}
-use Rattle.sections.specs.declared.condition.Condition.the-variants.{ControllerActive}
-use Rattle.sections.specs.declared.lists.ConditionRow.{ConditionRow}
+use Rattle.model.specs.declared.Condition.{Condition}
+use Rattle.model.specs.declared.Condition.the-variants.{ControllerActive}
+use Rattle.model.specs.declared.ConditionRow.{ConditionRow}
 use Rattle.sections.specs.declared.condition.ConditionAnswer.{ConditionAnswer}
-use Rattle.sections.specs.declared.lists.Triggers.{Triggers}
-use Rattle.sections.specs.declared.lists.Conditions.{Conditions}
+use Rattle.model.specs.declared.Triggers.{Triggers}
+use Rattle.model.specs.declared.Conditions.{Conditions}
 use Rattle.reader.specs.Parts.{withTrigger, withCondition, unrefused, toWhens, toIfs}
 use Rattle.reader.specs.declared.parts.Whens.{Whens}
 use Rattle.reader.specs.declared.parts.Ifs.{Ifs}
@@ -83,19 +85,19 @@ condition-grows xs list x {more} s few f e =
     let one = length-append xs (x ∷ []) in
     omega arith
 
-module _ (t : ℕ → Tok) (names : Names) (range : ℕ → Name) (fuel : ℕ) where
+module _ (t : ℕ → Tok) (view : View) (range : ℕ → Name) (fuel : ℕ) where
   abbrev pub When-going : Res (List Trigger) → Triggers → ℕ → Type 0
   When-going =
-      Going triggersOf withTrigger (λ (l : Triggers). l .count) trigger-counts trigger-puts t (ascii "when") 37 (triggerAt t names range fuel)
+      Going triggersOf withTrigger (λ (l : Triggers). l .count) trigger-counts trigger-puts t (ascii "when") 37 (triggerAt t view range fuel)
 
   abbrev pub And-going : Res (List Condition) → Conditions → ℕ → Type 0
   And-going =
       Going conditionsOf withCondition (λ (l : Conditions). l .count) condition-counts condition-puts t (ascii "and") 39
-      (conditionAt t names range fuel)
+      (conditionAt t view range fuel)
 
-  pub whens-begin : (i : ℕ) {list : Triggers} → list ≡ triggersOf [] → When-going (repeated t (ascii "when") 37 (triggerAt t names range fuel) 4 i) list i
+  pub whens-begin : (i : ℕ) {list : Triggers} → list ≡ triggersOf [] → When-going (repeated t (ascii "when") 37 (triggerAt t view range fuel) 4 i) list i
   whens-begin i e =
-      begin triggersOf withTrigger (λ (l : Triggers). l .count) trigger-counts trigger-puts t (ascii "when") 37 (triggerAt t names range fuel) i e
+      begin triggersOf withTrigger (λ (l : Triggers). l .count) trigger-counts trigger-puts t (ascii "when") 37 (triggerAt t view range fuel) i e
 
   module _ {whole : Res (List Trigger)} {list : Triggers} {p : Cursor} {a : Accepted} (g : When-going whole list (p .index))
       (asked : a ≡ accepted (isWord t (ascii "when") (p .index)) (p .index)) where
@@ -103,7 +105,7 @@ module _ (t : ℕ → Tok) (names : Names) (range : ℕ → Name) (fuel : ℕ) w
     pub whens-end : {r : Whens} → a ≡ Left → r ≡ record { accepted = true; refusal = unrefused; next = p; list = list } → r ≡ toWhens whole
     unfolding toWhens
     whens-end m e =
-        e ∙ rw (g .stored, at-last triggersOf withTrigger (λ (l : Triggers). l .count) trigger-counts trigger-puts t (ascii "when") 37 (triggerAt t names range fuel) g (was-left _ _ asked m))
+        e ∙ rw (g .stored, at-last triggersOf withTrigger (λ (l : Triggers). l .count) trigger-counts trigger-puts t (ascii "when") 37 (triggerAt t view range fuel) g (was-left _ _ asked m))
 
     module _ {next : Cursor} (m : a ≡ Yes next) where
       there : (isWord t (ascii "when") (p .index) ≡ true) × (next .index ≡ p .index + 1)
@@ -113,26 +115,26 @@ module _ (t : ℕ → Tok) (names : Names) (range : ℕ → Name) (fuel : ℕ) w
       pub whens-full : {r : Whens} {refusal : Refusal} → list .count ≡ 4 → refusal ≡ record { number = 37; token = p .index; detail = 0 } →
           r ≡ toWhens (no refusal) → r ≡ toWhens whole
       whens-full f h e =
-          e ∙ rw (h, too-many triggersOf withTrigger (λ (l : Triggers). l .count) trigger-counts trigger-puts t (ascii "when") 37 (triggerAt t names range fuel) g (there .0) f)
+          e ∙ rw (h, too-many triggersOf withTrigger (λ (l : Triggers). l .count) trigger-counts trigger-puts t (ascii "when") 37 (triggerAt t view range fuel) g (there .0) f)
 
-      module _ (f : list .count ≡ 4 → ⊥) {one : TriggerAnswer} (read : one ≡ toTrigger (triggerAt t names range fuel (next .index))) where
+      module _ (f : list .count ≡ 4 → ⊥) {one : TriggerAnswer} (read : one ≡ toTrigger (triggerAt t view range fuel (next .index))) where
         -- the form is refused
         pub whens-stop : {r : Whens} {refusal : Refusal} → one ≡ TriggerAnswer.No refusal → r ≡ toWhens (no refusal) → r ≡ toWhens whole
         whens-stop {refusal = refusal} w e =
             e ∙
-            rw (one-refused triggersOf withTrigger (λ (l : Triggers). l .count) trigger-counts trigger-puts t (ascii "when") 37 (triggerAt t names range fuel) g (there .0) f {r = refusal} (rw (← there .1) (is-trigger _ read w)))
+            rw (one-refused triggersOf withTrigger (λ (l : Triggers). l .count) trigger-counts trigger-puts t (ascii "when") 37 (triggerAt t view range fuel) g (there .0) f {r = refusal} (rw (← there .1) (is-trigger _ read w)))
 
         -- one more
         pub whens-on : {x : Trigger} {behind : Cursor} {more : Triggers} → one ≡ TriggerAnswer.Got x behind → more ≡ withTrigger list x → When-going whole more (behind .index)
         whens-on w e =
-            one-more triggersOf withTrigger (λ (l : Triggers). l .count) trigger-counts trigger-puts t (ascii "when") 37 (triggerAt t names range fuel) g (there .0) f (rw (← there .1) (is-trigger _ read w)) e
+            one-more triggersOf withTrigger (λ (l : Triggers). l .count) trigger-counts trigger-puts t (ascii "when") 37 (triggerAt t view range fuel) g (there .0) f (rw (← there .1) (is-trigger _ read w)) e
 
         pub whens-falls : (x : Trigger) {more : Triggers} → more ≡ withTrigger list x → 4 - more .count < 4 - list .count
         whens-falls x e = trigger-grows (g .entries) list x (g .stored) (let r = g .room in omega arith) f e
 
   -- the conditions behind the first x
   abbrev pub behind-first : Condition → ℕ → Res (List Condition)
-  behind-first x i = bind (repeated t (ascii "and") 39 (conditionAt t names range fuel) 3 i) (λ ys j. ok (x ∷ ys) j)
+  behind-first x i = bind (repeated t (ascii "and") 39 (conditionAt t view range fuel) 3 i) (λ ys j. ok (x ∷ ys) j)
 
   -- the loop began with a list of one
   pub record And-loop (begun : Conditions) (start : ℕ) (list : Conditions) (i : ℕ) : Type 0 where
@@ -147,7 +149,7 @@ module _ (t : ℕ → Tok) (names : Names) (range : ℕ → Name) (fuel : ℕ) w
         alone = e;
         going =
             begin-with conditionsOf withCondition (λ (l : Conditions). l .count) condition-counts condition-puts t (ascii "and") 39
-            (conditionAt t names range fuel) x i e;
+            (conditionAt t view range fuel) x i e;
       }
 
   -- the list that it began with says which condition was first
@@ -174,7 +176,7 @@ module _ (t : ℕ → Tok) (names : Names) (range : ℕ → Name) (fuel : ℕ) w
           ← h,
           ← begun-with x b,
           g .going .stored,
-          at-last conditionsOf withCondition (λ (l : Conditions). l .count) condition-counts condition-puts t (ascii "and") 39 (conditionAt t names range fuel) (g .going) (was-left _ _ asked m),
+          at-last conditionsOf withCondition (λ (l : Conditions). l .count) condition-counts condition-puts t (ascii "and") 39 (conditionAt t view range fuel) (g .going) (was-left _ _ asked m),
         )
 
     module _ {next : Cursor} (m : a ≡ Yes next) where
@@ -191,10 +193,10 @@ module _ (t : ℕ → Tok) (names : Names) (range : ℕ → Name) (fuel : ℕ) w
             h,
             ← w,
             ← begun-with x b,
-            too-many conditionsOf withCondition (λ (l : Conditions). l .count) condition-counts condition-puts t (ascii "and") 39 (conditionAt t names range fuel) (g .going) (and-there .0) f,
+            too-many conditionsOf withCondition (λ (l : Conditions). l .count) condition-counts condition-puts t (ascii "and") 39 (conditionAt t view range fuel) (g .going) (and-there .0) f,
           )
 
-      module _ (f : list .count ≡ 4 → ⊥) {one : ConditionAnswer} (read : one ≡ toCondition (conditionAt t names range fuel (next .index))) where
+      module _ (f : list .count ≡ 4 → ⊥) {one : ConditionAnswer} (read : one ≡ toCondition (conditionAt t view range fuel (next .index))) where
         -- the form is refused
         pub ands-stop : (whole : Res (List Condition)) (x : Condition) {r : Ifs} {refusal : Refusal} → begun ≡ conditionsOf (x ∷ []) →
             one ≡ ConditionAnswer.No refusal → r ≡ toIfs (no refusal) →
@@ -204,7 +206,7 @@ module _ (t : ℕ → Tok) (names : Names) (range : ℕ → Name) (fuel : ℕ) w
             rw (
               ← h,
               ← begun-with x b,
-              one-refused conditionsOf withCondition (λ (l : Conditions). l .count) condition-counts condition-puts t (ascii "and") 39 (conditionAt t names range fuel) (g .going) (and-there .0) f {r = refusal} (rw (← and-there .1) (is-condition _ read w)),
+              one-refused conditionsOf withCondition (λ (l : Conditions). l .count) condition-counts condition-puts t (ascii "and") 39 (conditionAt t view range fuel) (g .going) (and-there .0) f {r = refusal} (rw (← and-there .1) (is-condition _ read w)),
             )
 
         -- one more
@@ -214,7 +216,7 @@ module _ (t : ℕ → Tok) (names : Names) (range : ℕ → Name) (fuel : ℕ) w
             record {
               first = g .first;
               alone = g .alone;
-              going = one-more conditionsOf withCondition (λ (l : Conditions). l .count) condition-counts condition-puts t (ascii "and") 39 (conditionAt t names range fuel) (g .going) (and-there .0) f (rw (← and-there .1) (is-condition _ read w)) e;
+              going = one-more conditionsOf withCondition (λ (l : Conditions). l .count) condition-counts condition-puts t (ascii "and") 39 (conditionAt t view range fuel) (g .going) (and-there .0) f (rw (← and-there .1) (is-condition _ read w)) e;
             }
 
         pub ands-falls : (y : Condition) {more : Conditions} → more ≡ withCondition list y → 4 - more .count < 4 - list .count

@@ -1,28 +1,21 @@
 -- The answers of the reader's parts: structs, since they hold arrays. One refused has the refusal and empty lists.
-use Prim.Native.Nat.{ℕ, _+_, _*_}
+use Prim.Native.Nat.{ℕ, _+_}
 use mathlib.Core.Bool.{true, false}
 use mathlib.Core.List.{List, []}
-use lib.ListN.{set, take}
+use lib.ListN.{set}
 use lib.Dec.{ltb, eqb}
 use Rattle.text.specs.Choice.{pick}
-use Rattle.text.specs.Place.{checkOf}
-use Rattle.text.specs.declared.place.Checked.{Checked}
-use Rattle.text.specs.declared.place.Checked.the-variants.{WellFormed, IllFormed}
 use Rattle.tokens.specs.Result.{Res, ok, no, refuse}
 use Rattle.tokens.specs.Record.{capacity, lineAt, columnAt}
 use Rattle.tokens.specs.Cursor.{Tok, at}
-use Rattle.tokens.specs.Lex.{lexAnswer, lexWords}
-use Rattle.tokens.specs.declared.lexer.Lexed.{Lexed}
-use Rattle.tokens.specs.declared.lexer.Lexed.the-variants.{Tokens}
-use Rattle.references.specs.declared.sheet.Sheet.{Sheet}
 use Rattle.tokens.specs.declared.cursor.Refusal.{Refusal}
-use Rattle.sections.specs.Section.{Lists}
-use Rattle.sections.specs.Read.{triggersOf, conditionsOf, acceptedWith, refusedWith, ruleOf, Outcome}
-use Rattle.sections.specs.declared.trigger.Trigger.{Trigger}
-use Rattle.sections.specs.declared.condition.Condition.{Condition}
-use Rattle.sections.specs.declared.lists.Triggers.{Triggers}
-use Rattle.sections.specs.declared.lists.Conditions.{Conditions}
-use Rattle.sections.specs.declared.lists.Answer.{Answer}
+use Rattle.language.specs.Section.{Lists}
+use Rattle.model.specs.Lists.{triggersOf, conditionsOf, acceptedWith, refusedWith}
+use Rattle.model.specs.declared.Trigger.{Trigger}
+use Rattle.model.specs.declared.Condition.{Condition}
+use Rattle.model.specs.declared.Triggers.{Triggers}
+use Rattle.model.specs.declared.Conditions.{Conditions}
+use Rattle.model.specs.declared.Answer.{Answer}
 use Rattle.reader.specs.declared.parts.Whens.{Whens}
 use Rattle.reader.specs.declared.parts.Ifs.{Ifs}
 use Rattle.reader.specs.declared.parts.Rule.{Rule}
@@ -74,19 +67,3 @@ placed words line column r =
 unfoldable pub answered : List ℕ → ℕ → ℕ → Res Lists → Answer
 answered words line column (ok l i) = acceptedWith (l .triggers) (l .conditions)
 answered words line column (no r) = placed words line column r
-
--- what is answered once the text is lexed into these words
-unfoldable pub lexedBy : List ℕ → List ℕ → List ℕ → Lexed → Answer
-lexedBy text sheet words (Tokens count line column) =
-    answered (take (count * 6) words) line column (ruleOf text (take (count * 6) words) sheet)
-lexedBy text sheet words (Lexed.Refused number line column) = refusedWith number line column 0
-
--- the call from question 4 on, and from question 3 on
-unfoldable pub textOutcome : List ℕ → List ℕ → List ℕ → Checked → Outcome
-textOutcome text sheet words WellFormed =
-    record { answer = lexedBy text sheet (lexWords text words) (lexAnswer text words); buffer = lexWords text words }
-textOutcome text sheet words (IllFormed line column) = record { answer = refusedWith 4 line column 0; buffer = words }
-
-unfoldable pub sheetOutcome : List ℕ → List ℕ → List ℕ → Sheet → Outcome
-sheetOutcome text sheet words Sheet.WellFormed = textOutcome text sheet words (checkOf text)
-sheetOutcome text sheet words (Sheet.BadLine n) = record { answer = refusedWith 3 n 0 0; buffer = words }

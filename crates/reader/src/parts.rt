@@ -1,18 +1,18 @@
 // The parts of a call's answer, and the lists as they grow.
-use sections::condition::Condition;
-use sections::lists::Answer;
-use sections::lists::ConditionRow;
-use sections::lists::Conditions;
-use sections::lists::TriggerRow;
-use sections::lists::Triggers;
-use sections::trigger::Trigger;
+use model::Answer;
+use model::Condition;
+use model::ConditionRow;
+use model::Conditions;
+use model::Trigger;
+use model::TriggerRow;
+use model::Triggers;
 use tokens::cursor::Cursor;
 use tokens::cursor::Refusal;
 ghost use mathlib.Core.Path.{_≡_};
 ghost use mathlib.Core.Bool.{true, false};
 ghost use mathlib.Core.List.{[], _∷_};
 ghost use Rattle.tokens.specs.Cursor.{at};
-ghost use Rattle.sections.specs.Read.{triggersOf, conditionsOf, refusedWith};
+ghost use Rattle.model.specs.Lists.{triggersOf, conditionsOf, refusedWith};
 ghost use Rattle.reader.specs.Parts.{withTrigger, withCondition, unrefused, placed};
 
 // The triggers and the cursor behind them, or a refusal.

@@ -1,20 +1,22 @@
 // The call that outsiders make: a rule text and a name sheet in, both lists or one numbered refusal out.
 use crate::parts;
 use crate::section;
-use references::sheet::Settings;
-use references::sheet::Sheet;
-use sections::lists::Answer;
+use model::Answer;
+use sheet::Settings;
+use sheet::rows::Sheet;
 use text::place::Checked;
 use tokens::cursor::Refusal;
 use tokens::lexer::Lexed;
 ghost use mathlib.Core.Path.{_≡_};
+ghost use Prim.Native.Nat.{_≤_};
 ghost use lib.ListN.{length};
 ghost use Rattle.text.specs.Place.{checkOf};
-ghost use Rattle.tokens.specs.Lex.{lexAnswer, lexWords};
-ghost use Rattle.references.specs.Sheet.{sheetCheck};
-ghost use Rattle.sections.specs.Read.{refusedWith, readOf, ruleOf};
-ghost use Rattle.sections.specs.Demand.{Exact};
-ghost use Rattle.reader.specs.Parts.{placed, answered, lexedBy, textOutcome, sheetOutcome};
+ghost use Rattle.tokens.specs.Lex.{lexText, writtenFrom, mostBytes, leastWords};
+ghost use Rattle.sheet.specs.Sheet.{sheetCheck};
+ghost use Rattle.model.specs.Lists.{refusedWith};
+ghost use Rattle.language.specs.Read.{ruleOf, lexedFrom, byText, bySheet, seen, readOf};
+ghost use Rattle.language.specs.Demand.{Exact};
+ghost use Rattle.reader.specs.Parts.{placed, answered};
 
 // A refusal has empty lists.
 fn refused(number: u32, line: u32, column: u32, detail: u32) -> Answer
@@ -48,11 +50,9 @@ fn placed_at(words: &[u32], line: u32, column: u32, refusal: Refusal) -> Answer
 
 // Parses the tokens in the records; line and column are the end's.
 fn parse(text: &[u8], words: &[u32], sheet: &[u8], line: u32, column: u32) -> Answer
-    ensures { λ r. ⌜ r ≡ answered (now (words .entry)) line column (ruleOf (now (text .entry)) (now (words .entry)) (now (sheet .entry))) ⌝ }
+    ensures { λ r. ⌜ r ≡ answered (now (words .entry)) line column (ruleOf (now (text .entry)) (now (words .entry)) (seen (now (sheet .entry)))) ⌝ }
 {
-    let settings = Settings {
-        primary: references::sheet::primary(sheet),
-    };
+    let settings = sheet::rows::settings(sheet);
     let rule = section::rule(text, words, sheet, settings);
     let triggers = rule.triggers;
     let conditions = rule.conditions;
@@ -70,9 +70,10 @@ fn parse(text: &[u8], words: &[u32], sheet: &[u8], line: u32, column: u32) -> An
     placed_at(words, line, column, refusal)
 }
 
-// Lexes the whole text, then parses.
+// Lexes the whole text, then parses; questions 1 and 2 are passed, here and below.
 fn lex_and_parse(text: &[u8], sheet: &[u8], words: &mut [u32]) -> Answer
-    ensures { λ r. ⌜ (r ≡ lexedBy (now (text .entry)) (now (sheet .entry)) (lexWords (now (text .entry)) (now (words .entry))) (lexAnswer (now (text .entry)) (now (words .entry)))) × (now (words .exit) ≡ lexWords (now (text .entry)) (now (words .entry))) ⌝ }
+    requires { ⌜ (length (now text) ≤ mostBytes) × (leastWords ≤ length (now words)) ⌝ }
+    ensures { λ r. ⌜ (r ≡ lexedFrom (now (text .entry)) (seen (now (sheet .entry))) (lexText (now (text .entry))) (lexText (now (text .entry)))) × (now (words .exit) ≡ writtenFrom 0 (now (words .entry)) (lexText (now (text .entry)))) ⌝ }
 {
     let lexed = tokens::lexer::lex(text, words);
     match lexed {
@@ -85,13 +86,20 @@ fn lex_and_parse(text: &[u8], sheet: &[u8], words: &mut [u32]) -> Answer
             count,
             line,
             column,
-        } => parse(text, &words[..count * 6], sheet, line, column),
+        } => parse(
+            text,
+            &words[..count * tokens::record::RECORD_SIZE],
+            sheet,
+            line,
+            column,
+        ),
     }
 }
 
 // The call from question 4 on.
 fn read_text(text: &[u8], sheet: &[u8], words: &mut [u32]) -> Answer
-    ensures { λ r. ⌜ (r ≡ textOutcome (now (text .entry)) (now (sheet .entry)) (now (words .entry)) (checkOf (now (text .entry))) .answer) × (now (words .exit) ≡ textOutcome (now (text .entry)) (now (sheet .entry)) (now (words .entry)) (checkOf (now (text .entry))) .buffer) ⌝ }
+    requires { ⌜ (length (now text) ≤ mostBytes) × (leastWords ≤ length (now words)) ⌝ }
+    ensures { λ r. ⌜ (r ≡ byText (now (text .entry)) (seen (now (sheet .entry))) (now (words .entry)) (checkOf (now (text .entry))) .answer) × (now (words .exit) ≡ byText (now (text .entry)) (seen (now (sheet .entry))) (now (words .entry)) (checkOf (now (text .entry))) .buffer) ⌝ }
 {
     let checked = text::place::check_utf8(text);
     match checked {
@@ -102,9 +110,10 @@ fn read_text(text: &[u8], sheet: &[u8], words: &mut [u32]) -> Answer
 
 // The call from question 3 on.
 fn read_sheet(text: &[u8], sheet: &[u8], words: &mut [u32]) -> Answer
-    ensures { λ r. ⌜ (r ≡ sheetOutcome (now (text .entry)) (now (sheet .entry)) (now (words .entry)) (sheetCheck (now (sheet .entry))) .answer) × (now (words .exit) ≡ sheetOutcome (now (text .entry)) (now (sheet .entry)) (now (words .entry)) (sheetCheck (now (sheet .entry))) .buffer) ⌝ }
+    requires { ⌜ (length (now text) ≤ mostBytes) × (leastWords ≤ length (now words)) ⌝ }
+    ensures { λ r. ⌜ (r ≡ bySheet (now (text .entry)) (seen (now (sheet .entry))) (now (words .entry)) (sheetCheck (now (sheet .entry))) .answer) × (now (words .exit) ≡ bySheet (now (text .entry)) (seen (now (sheet .entry))) (now (words .entry)) (sheetCheck (now (sheet .entry))) .buffer) ⌝ }
 {
-    let well = references::sheet::check(sheet);
+    let well = sheet::rows::check(sheet);
     match well {
         Sheet::BadLine(n) => refused(3, n, 0, 0),
         Sheet::WellFormed => read_text(text, sheet, words),
@@ -117,10 +126,10 @@ pub fn read(text: &[u8], sheet: &[u8], words: &mut [u32]) -> Answer
     ensures { λ r. ⌜ (r ≡ readOf (now (text .entry)) (now (sheet .entry)) (now (words .entry)) .answer) × (now (words .exit) ≡ readOf (now (text .entry)) (now (sheet .entry)) (now (words .entry)) .buffer) ⌝ }
     ensures reading { λ r. ⌜ Exact (now (text .entry)) (now (sheet .entry)) (length (now (words .entry))) r ⌝ }
 {
-    if 16384 < text.len() {
+    if tokens::lexer::MOST_BYTES < text.len() {
         return refused(1, 0, 0, 0);
     }
-    if words.len() < 6144 {
+    if words.len() < tokens::lexer::LEAST_WORDS {
         return refused(2, 0, 0, 0);
     }
     read_sheet(text, sheet, words)

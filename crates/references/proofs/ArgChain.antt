@@ -11,17 +11,17 @@ use Rattle.tokens.specs.Cursor.{Tok, isKind, accepted}
 use Rattle.tokens.specs.declared.cursor.Cursor.{Cursor}
 use Rattle.tokens.specs.declared.cursor.Refusal.{Refusal}
 use Rattle.tokens.specs.declared.cursor.Accepted.{Accepted}
-use Rattle.references.specs.Sheet.{Names}
+use Rattle.sheet.specs.View.{View}
 use Rattle.references.specs.Args.{slotOf, typeWord, put, withInst, withDev, withGroup, isDev, isNumber, oneInstance, toItem, toArgs, toSelector, toInput}
-use Rattle.references.specs.declared.resolve.Scope.{Scope}
+use Rattle.sheet.specs.declared.resolve.Scope.{Scope}
 use Rattle.references.specs.declared.refs.NameOrId.{NameOrId}
 use Rattle.references.specs.declared.args.Dev.{Dev}
-use Rattle.references.specs.declared.args.Number.{Number}
+use Rattle.model.specs.declared.Number.{Number}
 use Rattle.references.specs.declared.args.GroupArg.{GroupArg}
-use Rattle.references.specs.declared.args.InputRef.{InputRef}
+use Rattle.model.specs.declared.InputRef.{InputRef}
 use Rattle.references.specs.declared.args.Item.{Item}
 use Rattle.references.specs.declared.args.Args.{Args}
-use Rattle.references.specs.declared.args.Selector.{Selector}
+use Rattle.model.specs.declared.Selector.{Selector}
 use Rattle.references.specs.declared.args.ItemAnswer.{ItemAnswer}
 use Rattle.references.specs.declared.args.ArgsAnswer.{ArgsAnswer}
 use Rattle.references.specs.declared.args.SelectorAnswer.{SelectorAnswer}
@@ -144,17 +144,17 @@ stop-input x f e m = rw (is-input x e m)
 pub by-item : (a : Args) (x : Item) {v : Item} {y : Args} → x ≡ v → y ≡ put a v → y ≡ put a x
 by-item a x was h = rw was h
 
-pub by-inst : (t : ℕ → Tok) (names : Names) (scope : Scope) (close j : ℕ) (d : NameOrId) (x : Number) {v : Number} {y : Res Selector} →
-    x ≡ v → y ≡ withInst t names scope close j d v → y ≡ withInst t names scope close j d x
-by-inst t names scope close j d x was h = rw was h
+pub by-inst : (t : ℕ → Tok) (view : View) (scope : Scope) (close j : ℕ) (d : NameOrId) (x : Number) {v : Number} {y : Res Selector} →
+    x ≡ v → y ≡ withInst t view scope close j d v → y ≡ withInst t view scope close j d x
+by-inst t view scope close j d x was h = rw was h
 
-pub by-dev : (t : ℕ → Tok) (names : Names) (a : Args) (close j : ℕ) (x : Dev) {v : Dev} {y : Res Selector} →
-    x ≡ v → y ≡ withDev t names a close j v → y ≡ withDev t names a close j x
-by-dev t names a close j x was h = rw was h
+pub by-dev : (t : ℕ → Tok) (view : View) (a : Args) (close j : ℕ) (x : Dev) {v : Dev} {y : Res Selector} →
+    x ≡ v → y ≡ withDev t view a close j v → y ≡ withDev t view a close j x
+by-dev t view a close j x was h = rw was h
 
-pub by-group : (t : ℕ → Tok) (names : Names) (a : Args) (close j : ℕ) (x : GroupArg) {v : GroupArg} {y : Res Selector} →
-    x ≡ v → y ≡ withGroup t names a close j v → y ≡ withGroup t names a close j x
-by-group t names a close j x was h = rw was h
+pub by-group : (t : ℕ → Tok) (view : View) (a : Args) (close j : ℕ) (x : GroupArg) {v : GroupArg} {y : Res Selector} →
+    x ≡ v → y ≡ withGroup t view a close j v → y ≡ withGroup t view a close j x
+by-group t view a close j x was h = rw was h
 
 pub by-selector : (paren j : ℕ) (x : Selector) {v : Selector} {y : Res InputRef} →
     x ≡ v → y ≡ oneInstance paren j v → y ≡ oneInstance paren j x

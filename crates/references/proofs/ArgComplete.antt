@@ -13,16 +13,18 @@ use Rattle.tokens.specs.Record.{capacity}
 use Rattle.tokens.specs.Result.{ok}
 use Rattle.tokens.specs.Cursor.{Tok, tokens, takeKind}
 use Rattle.tokens.proofs.CursorLaws.{no-kind}
-use Rattle.references.specs.Sheet.{Names}
-use Rattle.references.specs.Refs.{adapterOr}
-use Rattle.references.specs.Args.{slotOf, isNamed, keySlot, namedSlot, unnamedSlot, slotAt, typeWord, typeAt, deviceItem, instanceItem, groupItem, typeItem, adapterItem, itemAt, noArgs, argAt, countWith, deviceInstance, withInst, withDev, isDev, isNumber, withGroup, selected, closeArgs, inputSelector, oneInstance, inputRef}
-use Rattle.references.specs.Grammar.{Token, token, Word, a-word, Up-to, up-to, quoted, Name-or-id, name, id, Adapter, Type-of, number, button, absolute, occupancy, light, Arg, first, second, Arg-list, one, more, On-adapter, primary, given, Selects, instance, instances, Args-of, args, One-instance, one-instance}
-use Rattle.references.specs.declared.resolve.Scope.{Scope}
+use Rattle.sheet.specs.View.{View}
+use Rattle.references.specs.Refs.{scopeOrPrimary}
+use Rattle.references.specs.Arguments.{noSlot, devSlot, instSlot}
+use Rattle.references.specs.Args.{slotOf, isNamed, keySlot, namedSlot, unnamedSlot, slotAt, typeWord, inputTypeValue, deviceItem, instanceItem, groupItem, typeItem, adapterItem, itemAt, noArgs, argAt, countWith, deviceInstance, withInst, withDev, isDev, isNumber, withGroup, selected, closeArgs, inputSelector, oneInstance, inputRef}
+use Rattle.tokens.specs.Grammar.{Token, token, Word, a-word, Up-to, up-to}
+use Rattle.references.specs.Grammar.{quoted, Name-or-id, name, id, Adapter, Type-of, number, button, absolute, occupancy, light, Arg, first, second, Arg-list, one, more, On-adapter, primary, given, Selects, instance, instances, Args-of, args, One-instance, one-instance}
+use Rattle.sheet.specs.declared.resolve.Scope.{Scope}
 use Rattle.references.specs.declared.refs.NameOrId.{NameOrId}
 use Rattle.references.specs.declared.args.Item.{Item}
-use Rattle.references.specs.declared.args.Selector.{Selector}
-use Rattle.references.specs.declared.args.InputRef.{InputRef}
-use Rattle.references.proofs.Okay.{token-kind, not-kind, kind-yes, kind-no, kind-complete, up-to-complete}
+use Rattle.model.specs.declared.Selector.{Selector}
+use Rattle.model.specs.declared.InputRef.{InputRef}
+use Rattle.tokens.proofs.Okay.{token-kind, not-kind, kind-yes, kind-no, kind-complete, up-to-complete}
 use Rattle.references.proofs.RefComplete.{name-or-id-complete, adapter-complete, refers-complete}
 use Rattle.references.proofs.ItemLaws.{puts, itemsFrom, args-items, no-dev, dev, dev-is, no-inst, inst, inst-is, no-group, in-group, group-is, type-is, scope-is}
 
@@ -40,7 +42,7 @@ name-or-id-next : {t : ℕ → Tok} {i j : ℕ} {d : NameOrId} → Name-or-id t 
 name-or-id-next (name (quoted h a b)) = token-next h
 name-or-id-next (id h) = token-next h
 
-adapter-next : {t : ℕ → Tok} {names : Names} {i a j : ℕ} → Adapter t names i a j → i < j
+adapter-next : {t : ℕ → Tok} {view : View} {i a j : ℕ} → Adapter t view i a j → i < j
 adapter-next (Adapter.adapter h l) = up-to-next h
 
 type-next : {t : ℕ → Tok} {i n j : ℕ} → Type-of t i n j → i < j
@@ -50,8 +52,8 @@ type-next (absolute h) = word-next h
 type-next (occupancy h) = word-next h
 type-next (light h) = word-next h
 
-pub type-complete : {t : ℕ → Tok} {i n j : ℕ} → Type-of t i n j → typeAt t i ≡ ok n j
-unfolding typeAt typeWord sameBytes
+pub type-complete : {t : ℕ → Tok} {i n j : ℕ} → Type-of t i n j → inputTypeValue t i ≡ ok n j
+unfolding inputTypeValue typeWord sameBytes
 type-complete {t} (number (up-to (token {i} p) l)) = rw (kind-no t 1 i (not-kind t 1 refl p)) (up-to-complete t (up-to (token p) l))
 type-complete {t} (button (a-word p q)) = rw (kind-yes t refl p, q)
 type-complete {t} (absolute (a-word p q)) = rw (kind-yes t refl p, q)
@@ -65,7 +67,7 @@ record Slot (t : ℕ → Tok) (m i slot n k : ℕ) : Type 0 where
   behind : i ≤ k
 
 -- a key: its slot, and no unnamed argument more
-key-slot : {t : ℕ → Tok} {m i a j k : ℕ} {w : List ℕ} → Word t w i j → Token t 14 j a k → (slotOf w ≡ 0 → ⊥) → Slot t m i (slotOf w) m k
+key-slot : {t : ℕ → Tok} {m i a j k : ℕ} {w : List ℕ} → Word t w i j → Token t 14 j a k → (slotOf w ≡ noSlot → ⊥) → Slot t m i (slotOf w) m k
 unfolding slotAt isNamed namedSlot takeKind keySlot countWith
 key-slot {t} {w = w} (a-word p q) (token r) n =
     record {
@@ -79,7 +81,7 @@ unnamed : (t : ℕ → Tok) {i kind : ℕ} → eqb kind 1 ≡ false → t i .kin
 unfolding isNamed
 unnamed t {i} e p = rw (kind-no t 1 i (not-kind t 1 e p))
 
-first-slot : {t : ℕ → Tok} {i j : ℕ} {d : NameOrId} → Name-or-id t i d j → Slot t 0 i 1 1 i
+first-slot : {t : ℕ → Tok} {i j : ℕ} {d : NameOrId} → Name-or-id t i d j → Slot t 0 i devSlot 1 i
 unfolding slotAt unnamedSlot countWith
 first-slot {t} {i} h = record { answered = rw (not-named h); counted = rw (not-named h); behind = omega arith }
   where
@@ -87,32 +89,32 @@ first-slot {t} {i} h = record { answered = rw (not-named h); counted = rw (not-n
     not-named (name (quoted (token p) a b)) = unnamed t refl p
     not-named (id (token p)) = unnamed t refl p
 
-second-slot : {t : ℕ → Tok} {most i n j : ℕ} → Up-to t most i n j → Slot t 1 i 2 2 i
+second-slot : {t : ℕ → Tok} {most i n j : ℕ} → Up-to t most i n j → Slot t 1 i instSlot 2 i
 unfolding slotAt unnamedSlot countWith
 second-slot {t} (up-to (token p) l) =
     record { answered = rw (unnamed t refl p); counted = rw (unnamed t refl p); behind = omega arith }
 
 -- an argument at a slot, read from k on
-at-slot : {t : ℕ → Tok} (names : Names) {m i slot n k l : ℕ} {x : Item} → Slot t m i slot n k → itemAt t names slot k ≡ ok x l → k < l →
-    (argAt t names m i ≡ ok x l) × (countWith t m i ≡ n) × (i < l)
+at-slot : {t : ℕ → Tok} (view : View) {m i slot n k l : ℕ} {x : Item} → Slot t m i slot n k → itemAt t view slot k ≡ ok x l → k < l →
+    (argAt t view m i ≡ ok x l) × (countWith t m i ≡ n) × (i < l)
 unfolding argAt
-at-slot names s e h = (rw (s .answered) e, s .counted, let p = s .behind in omega arith)
+at-slot view s e h = (rw (s .answered) e, s .counted, let p = s .behind in omega arith)
 
 -- one argument, the number of unnamed ones with it, and that it takes a token
-pub arg-complete : {t : ℕ → Tok} {names : Names} {m i n j : ℕ} {x : Item} → Arg t names m i x n j →
-    (argAt t names m i ≡ ok x j) × (countWith t m i ≡ n) × (i < j)
+pub arg-complete : {t : ℕ → Tok} {view : View} {m i n j : ℕ} {x : Item} → Arg t view m i x n j →
+    (argAt t view m i ≡ ok x j) × (countWith t m i ≡ n) × (i < j)
 unfolding slotOf sameBytes itemAt deviceItem instanceItem groupItem typeItem adapterItem
-arg-complete {names = names} (Arg.dev w e h) = at-slot names (key-slot w e (λ z. omega arith)) (rw (name-or-id-complete h)) (name-or-id-next h)
-arg-complete {t} {names} (Arg.inst w e h) = at-slot names (key-slot w e (λ z. omega arith)) (rw (up-to-complete t h)) (up-to-next h)
-arg-complete {t} {names} (Arg.group w e h) = at-slot names (key-slot w e (λ z. omega arith)) (rw (up-to-complete t h)) (up-to-next h)
-arg-complete {names = names} (Arg.type w e h) = at-slot names (key-slot w e (λ z. omega arith)) (rw (type-complete h)) (type-next h)
-arg-complete {names = names} (Arg.adapter w e h) = at-slot names (key-slot w e (λ z. omega arith)) (rw (adapter-complete h)) (adapter-next h)
-arg-complete {names = names} (first h) = at-slot names (first-slot h) (rw (name-or-id-complete h)) (name-or-id-next h)
-arg-complete {t} {names} (second h) = at-slot names (second-slot h) (rw (up-to-complete t h)) (up-to-next h)
+arg-complete {view = view} (Arg.dev w e h) = at-slot view (key-slot w e (λ z. omega arith)) (rw (name-or-id-complete h)) (name-or-id-next h)
+arg-complete {t} {view} (Arg.inst w e h) = at-slot view (key-slot w e (λ z. omega arith)) (rw (up-to-complete t h)) (up-to-next h)
+arg-complete {t} {view} (Arg.group w e h) = at-slot view (key-slot w e (λ z. omega arith)) (rw (up-to-complete t h)) (up-to-next h)
+arg-complete {view = view} (Arg.type w e h) = at-slot view (key-slot w e (λ z. omega arith)) (rw (type-complete h)) (type-next h)
+arg-complete {view = view} (Arg.adapter w e h) = at-slot view (key-slot w e (λ z. omega arith)) (rw (adapter-complete h)) (adapter-next h)
+arg-complete {view = view} (first h) = at-slot view (first-slot h) (rw (name-or-id-complete h)) (name-or-id-next h)
+arg-complete {t} {view} (second h) = at-slot view (second-slot h) (rw (up-to-complete t h)) (up-to-next h)
 
 -- the list ends before a token that is no comma
-pub items-complete : {t : ℕ → Tok} {names : Names} {m i j : ℕ} {xs : List Item} (fuel : ℕ) → length xs ≤ fuel → (t j .kind ≡ 11 → ⊥) →
-    Arg-list t names m i xs j → itemsFrom t names fuel m i ≡ ok xs j
+pub items-complete : {t : ℕ → Tok} {view : View} {m i j : ℕ} {xs : List Item} (fuel : ℕ) → length xs ≤ fuel → (t j .kind ≡ 11 → ⊥) →
+    Arg-list t view m i xs j → itemsFrom t view fuel m i ≡ ok xs j
 unfolding itemsFrom
 items-complete zero l n (one h) = absurd (omega arith)
 items-complete zero l n (more h c g) = absurd (omega arith)
@@ -121,18 +123,18 @@ items-complete {t} (suc fuel) l n (more h (token p) g) =
     let a = arg-complete h in
     rw (a .0, kind-yes t refl p, a .1, items-complete fuel (omega arith) n g)
 
-items-next : {t : ℕ → Tok} {names : Names} {m i j : ℕ} {xs : List Item} → Arg-list t names m i xs j → i + length xs ≤ j
+items-next : {t : ℕ → Tok} {view : View} {m i j : ℕ} {xs : List Item} → Arg-list t view m i xs j → i + length xs ≤ j
 items-next (one h) = let a = arg-complete h in omega arith
 items-next (more h c g) = let a = arg-complete h in omega (arith, token-next c, items-next g)
 
 -- an instance group's adapter
-adapter-is : {names : Names} {scope : Scope} {a : ℕ} → On-adapter names scope a → adapterOr names scope ≡ a
-unfolding adapterOr
+adapter-is : {view : View} {scope : Scope} {a : ℕ} → On-adapter view scope a → scopeOrPrimary view scope ≡ a
+unfolding scopeOrPrimary
 adapter-is primary = refl
 adapter-is given = refl
 
-pub selected-complete : {t : ℕ → Tok} {names : Names} {xs : List Item} {s : Selector} (close next : ℕ) → Selects t names xs s →
-    selected t names (puts noArgs xs) close next ≡ ok s next
+pub selected-complete : {t : ℕ → Tok} {view : View} {xs : List Item} {s : Selector} (close next : ℕ) → Selects t view xs s →
+    selected t view (puts noArgs xs) close next ≡ ok s next
 unfolding selected withGroup withDev withInst deviceInstance isDev isNumber
 selected-complete close next (instance w l m c r) =
     rw (group-is (no-group w), dev-is (dev l), inst-is (inst m), scope-is c, refers-complete next r)
@@ -153,17 +155,17 @@ token-before {fuel = fuel} {i = i} end n h = by (decLe fuel i)
     by (Dec.no p) = omega arith
 
 -- a reading of ARGS is answered, with as much fuel as there are tokens
-pub args-complete : {t : ℕ → Tok} {names : Names} {fuel i j : ℕ} {s : Selector} → ((k : ℕ) → fuel ≤ k → t k .kind ≡ 0) →
-    Args-of t names i s j → inputSelector t names fuel i ≡ ok s j
+pub args-complete : {t : ℕ → Tok} {view : View} {fuel i j : ℕ} {s : Selector} → ((k : ℕ) → fuel ≤ k → t k .kind ≡ 0) →
+    Args-of t view i s j → inputSelector t view fuel i ≡ ok s j
 unfolding inputSelector closeArgs
-args-complete {t} {names} {fuel} end (args {j = j} {k = k} {l = l} {xs = xs} left h right g) =
+args-complete {t} {view} {fuel} end (args {j = j} {k = k} {l = l} {xs = xs} left h right g) =
     let few : length xs ≤ fuel = omega (arith, items-next h, token-before end (λ e. omega arith) right) in
     let behind : t k .kind ≡ 11 → ⊥ = not-kind t 11 refl (token-kind right) in
-    rw (kind-complete t refl left, args-items t names fuel noArgs 0 j, items-complete fuel few behind h)
+    rw (kind-complete t refl left, args-items t view fuel noArgs 0 j, items-complete fuel few behind h)
     (rw (kind-complete t refl right) (selected-complete k l g))
 
 -- and so is one instance
-pub one-instance-complete : {t : ℕ → Tok} {names : Names} {fuel i j : ℕ} {r : InputRef} → ((k : ℕ) → fuel ≤ k → t k .kind ≡ 0) →
-    One-instance t names i r j → inputRef t names fuel i ≡ ok r j
+pub one-instance-complete : {t : ℕ → Tok} {view : View} {fuel i j : ℕ} {r : InputRef} → ((k : ℕ) → fuel ≤ k → t k .kind ≡ 0) →
+    One-instance t view i r j → inputRef t view fuel i ≡ ok r j
 unfolding inputRef oneInstance
 one-instance-complete end (one-instance h) = rw (args-complete end h)

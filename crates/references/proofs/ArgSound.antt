@@ -12,39 +12,42 @@ use Rattle.text.specs.Part.{sameBytes}
 use Rattle.text.proofs.PartLaws.{same-eq}
 use Rattle.tokens.specs.Result.{Res, ok, no, bind, refuse}
 use Rattle.tokens.specs.Cursor.{Tok, isKind, takeKind, takeIn}
-use Rattle.references.specs.Limits.{lastShortAddress, lastInstance, lastInstanceGroup, lastInstanceType}
-use Rattle.references.specs.Sheet.{Names}
-use Rattle.references.specs.Refs.{nameOrId, adapterNumber, adapterOr, referred}
-use Rattle.references.specs.Args.{slotOf, isNamed, keySlot, namedSlot, unnamedSlot, slotAt, typeWord, typeAt, deviceItem, instanceItem, groupItem, typeItem, adapterItem, itemAt, noArgs, argAt, countWith, deviceInstance, withInst, withDev, isDev, isNumber, withGroup, selected, closeArgs, inputSelector, oneInstance, inputRef}
-use Rattle.references.specs.Grammar.{token, a-word, Type-of, number, button, absolute, occupancy, light, Arg, first, second, Arg-list, one, more, Scoped, On-adapter, primary, given, Typed, Selects, instance, instances, Args-of, args, One-instance, one-instance}
-use Rattle.references.specs.declared.resolve.Scope.{Scope}
-use Rattle.references.specs.declared.resolve.Scope.the-variants.{Any, On}
-use Rattle.references.specs.declared.refs.Ref.{Ref}
+use Rattle.model.specs.Limits.{lastShortAddress, lastInstance, lastInstanceGroup, lastInstanceType}
+use Rattle.sheet.specs.Kind.{inputKind}
+use Rattle.sheet.specs.View.{View}
+use Rattle.references.specs.Refs.{nameOrId, adapterNumber, scopeOrPrimary, referred}
+use Rattle.references.specs.Arguments.{noSlot, devSlot, instSlot, groupSlot, typeSlot, adapterSlot, noType, pushButton, absoluteInput, occupancySensor, lightSensor}
+use Rattle.references.specs.Args.{slotOf, isNamed, keySlot, namedSlot, unnamedSlot, slotAt, typeWord, inputTypeValue, deviceItem, instanceItem, groupItem, typeItem, adapterItem, itemAt, noArgs, argAt, countWith, deviceInstance, withInst, withDev, isDev, isNumber, withGroup, selected, closeArgs, inputSelector, oneInstance, inputRef}
+use Rattle.tokens.specs.Grammar.{token, a-word}
+use Rattle.references.specs.Grammar.{Type-of, number, button, absolute, occupancy, light, Arg, first, second, Arg-list, one, more, Scoped, On-adapter, primary, given, Typed, Selects, instance, instances, Args-of, args, One-instance, one-instance}
+use Rattle.sheet.specs.declared.resolve.Scope.{Scope}
+use Rattle.sheet.specs.declared.resolve.Scope.the-variants.{Any, On}
+use Rattle.model.specs.declared.Ref.{Ref}
 use Rattle.references.specs.declared.args.Dev.{Dev}
-use Rattle.references.specs.declared.args.Number.{Number}
+use Rattle.model.specs.declared.Number.{Number}
 use Rattle.references.specs.declared.args.GroupArg.{GroupArg}
 use Rattle.references.specs.declared.args.Item.{Item}
 use Rattle.references.specs.declared.args.Args.{Args}
-use Rattle.references.specs.declared.args.Selector.{Selector}
-use Rattle.references.proofs.Okay.{Okay, bind-ok, perhaps-ok, mapped, both-true, token-kind, is-kind, kind-sound, up-to-sound}
+use Rattle.model.specs.declared.Selector.{Selector}
+use Rattle.tokens.proofs.Okay.{Okay, bind-ok, perhaps-ok, mapped, both-true, token-kind, is-kind, kind-sound, up-to-sound}
 use Rattle.references.proofs.RefSound.{name-or-id-sound, adapter-sound, refers-sound}
 use Rattle.references.proofs.ItemLaws.{puts, putAll, itemsFrom, args-items, Dev-in, no-dev, dev, dev-left, Inst-in, no-inst, inst, inst-left, Group-in, no-group, in-group, group-left, type-left, scope-left}
 
 -- what a key and a type's word are
 data Key : ℕ → List ℕ → Type 0 where
   other-key : {w : List ℕ} → Key 0 w
-  key-dev : Key 1 (ascii "dev")
-  key-inst : Key 2 (ascii "inst")
-  key-group : Key 3 (ascii "group")
-  key-type : Key 4 (ascii "type")
-  key-adapter : Key 5 (ascii "adapter")
+  key-dev : Key devSlot (ascii "dev")
+  key-inst : Key instSlot (ascii "inst")
+  key-group : Key groupSlot (ascii "group")
+  key-type : Key typeSlot (ascii "type")
+  key-adapter : Key adapterSlot (ascii "adapter")
 
 data Type-word : ℕ → List ℕ → Type 0 where
   other-type : {w : List ℕ} → Type-word 0 w
-  type-button : Type-word 1 (ascii "button")
-  type-absolute : Type-word 2 (ascii "absolute")
-  type-occupancy : Type-word 3 (ascii "occupancy")
-  type-light : Type-word 4 (ascii "light")
+  type-button : Type-word pushButton (ascii "button")
+  type-absolute : Type-word absoluteInput (ascii "absolute")
+  type-occupancy : Type-word occupancySensor (ascii "occupancy")
+  type-light : Type-word lightSensor (ascii "light")
 
 by-word : (P : ℕ → List ℕ → Type 0) (w v : List ℕ) (k n : ℕ) → P k v → P n w → P (pick (sameBytes w v) k n) w
 by-word P w v k n h g = by (sameBytes w v) refl
@@ -56,17 +59,17 @@ by-word P w v k n h g = by (sameBytes w v) refl
 key-of : (w : List ℕ) → Key (slotOf w) w
 unfolding slotOf
 key-of w =
-    by-word Key w (ascii "dev") 1 _ key-dev
-    (by-word Key w (ascii "inst") 2 _ key-inst
-    (by-word Key w (ascii "group") 3 _ key-group
-    (by-word Key w (ascii "type") 4 _ key-type (by-word Key w (ascii "adapter") 5 0 key-adapter other-key))))
+    by-word Key w (ascii "dev") devSlot _ key-dev
+    (by-word Key w (ascii "inst") instSlot _ key-inst
+    (by-word Key w (ascii "group") groupSlot _ key-group
+    (by-word Key w (ascii "type") typeSlot _ key-type (by-word Key w (ascii "adapter") adapterSlot noSlot key-adapter other-key))))
 
 type-word-of : (w : List ℕ) → Type-word (typeWord w) w
 unfolding typeWord
 type-word-of w =
-    by-word Type-word w (ascii "button") 1 _ type-button
-    (by-word Type-word w (ascii "absolute") 2 _ type-absolute
-    (by-word Type-word w (ascii "occupancy") 3 _ type-occupancy (by-word Type-word w (ascii "light") 4 0 type-light other-type)))
+    by-word Type-word w (ascii "button") pushButton _ type-button
+    (by-word Type-word w (ascii "absolute") absoluteInput _ type-absolute
+    (by-word Type-word w (ascii "occupancy") occupancySensor _ type-occupancy (by-word Type-word w (ascii "light") lightSensor noType type-light other-type)))
 
 type-word-sound : (t : ℕ → Tok) {i n : ℕ} {w : List ℕ} → t i .kind ≡ 1 → t i .bytes ≡ w → Type-word n w →
     Okay (Type-of t i) (pick (eqb n 0) (refuse 21 i) (ok n (i + 1)))
@@ -76,8 +79,8 @@ type-word-sound t p q type-absolute = absolute (a-word p q)
 type-word-sound t p q type-occupancy = occupancy (a-word p q)
 type-word-sound t p q type-light = light (a-word p q)
 
-pub type-sound : (t : ℕ → Tok) (i : ℕ) → Okay (Type-of t i) (typeAt t i)
-unfolding typeAt
+pub type-sound : (t : ℕ → Tok) (i : ℕ) → Okay (Type-of t i) (inputTypeValue t i)
+unfolding inputTypeValue
 type-sound t i =
     let G = Type-of t i in
     perhaps-ok G (isKind t 1 i) i _ _
@@ -85,10 +88,10 @@ type-sound t i =
     (λ e. mapped G (takeIn t 0 lastInstanceType i) (up-to-sound t lastInstanceType i) (λ n j h. number h))
 
 -- an instance group's adapter
-on-adapter : (names : Names) (scope : Scope) → On-adapter names scope (adapterOr names scope)
-unfolding adapterOr
-on-adapter names Any = primary
-on-adapter names (On a) = given
+on-adapter : (view : View) (scope : Scope) → On-adapter view scope (scopeOrPrimary view scope)
+unfolding scopeOrPrimary
+on-adapter view Any = primary
+on-adapter view (On a) = given
 
 -- what is read of the items that are put, for any form that goes on with it
 put-ok : {P : List Item → ℕ → Type 0} {B : Type 0} (Q : B → ℕ → Type 0) (m : Res (List Item)) (f : Args → ℕ → Res B) → Okay P m →
@@ -96,10 +99,10 @@ put-ok : {P : List Item → ℕ → Type 0} {B : Type 0} (Q : B → ℕ → Type
 put-ok Q (ok xs j) f h k = k xs j h
 put-ok Q (no r) f h k = tt
 
-module _ (t : ℕ → Tok) (names : Names) where
+module _ (t : ℕ → Tok) (view : View) where
   -- a named argument, by its key
   named-sound : (m : ℕ) {i s : ℕ} {w : List ℕ} → t i .kind ≡ 1 → t (i + 1) .kind ≡ 14 → t i .bytes ≡ w → Key s w →
-      Okay (λ x j. Arg t names m i x m j) (bind (pick (eqb s 0) (refuse 21 i) (ok s (i + 1 + 1))) (λ slot j. itemAt t names slot j))
+      Okay (λ x j. Arg t view m i x m j) (bind (pick (eqb s 0) (refuse 21 i) (ok s (i + 1 + 1))) (λ slot j. itemAt t view slot j))
   unfolding itemAt deviceItem instanceItem groupItem typeItem adapterItem
   named-sound m p r q other-key = tt
   named-sound m {i} p r q key-dev =
@@ -110,13 +113,13 @@ module _ (t : ℕ → Tok) (names : Names) where
       bind-ok _ (takeIn t 0 lastInstanceGroup (i + 1 + 1)) _ (up-to-sound t lastInstanceGroup (i + 1 + 1))
       (λ n j h. Arg.group (a-word p q) (token r) h)
   named-sound m {i} p r q key-type =
-      bind-ok _ (typeAt t (i + 1 + 1)) _ (type-sound t (i + 1 + 1)) (λ n j h. Arg.type (a-word p q) (token r) h)
+      bind-ok _ (inputTypeValue t (i + 1 + 1)) _ (type-sound t (i + 1 + 1)) (λ n j h. Arg.type (a-word p q) (token r) h)
   named-sound m {i} p r q key-adapter =
-      bind-ok _ (adapterNumber t names (i + 1 + 1)) _ (adapter-sound t names (i + 1 + 1)) (λ a j h. Arg.adapter (a-word p q) (token r) h)
+      bind-ok _ (adapterNumber t view (i + 1 + 1)) _ (adapter-sound t view (i + 1 + 1)) (λ a j h. Arg.adapter (a-word p q) (token r) h)
 
   -- an unnamed one behind m others
   unnamed-sound : (m i : ℕ) →
-      Okay (λ x j. Arg t names m i x (pick (ltb m 2) (m + 1) 2) j) (bind (unnamedSlot m i) (λ slot j. itemAt t names slot j))
+      Okay (λ x j. Arg t view m i x (pick (ltb m 2) (m + 1) 2) j) (bind (unnamedSlot m i) (λ slot j. itemAt t view slot j))
   unfolding unnamedSlot itemAt deviceItem instanceItem
   unnamed-sound zero i = bind-ok _ (nameOrId t i) _ (name-or-id-sound t i) (λ d j h. first h)
   unnamed-sound (suc zero) i = bind-ok _ (takeIn t 0 lastInstance i) _ (up-to-sound t lastInstance i) (λ n j h. second h)
@@ -124,8 +127,8 @@ module _ (t : ℕ → Tok) (names : Names) where
 
   -- a word and `=`, or not
   slot-sound : (m i : ℕ) (b : Bool) → isNamed t i ≡ b →
-      Okay (λ x j. Arg t names m i x (pick b m (pick (ltb m 2) (m + 1) 2)) j)
-      (bind (pick b (namedSlot t i) (unnamedSlot m i)) (λ slot j. itemAt t names slot j))
+      Okay (λ x j. Arg t view m i x (pick b m (pick (ltb m 2) (m + 1) 2)) j)
+      (bind (pick b (namedSlot t i) (unnamedSlot m i)) (λ slot j. itemAt t view slot j))
   unfolding isNamed namedSlot takeKind keySlot
   slot-sound m i true e =
       let k = both-true (isKind t 1 i) _ e in
@@ -135,63 +138,63 @@ module _ (t : ℕ → Tok) (names : Names) where
   slot-sound m i false e = unnamed-sound m i
 
   -- one argument, with the number of unnamed ones that are there with it
-  pub arg-sound : (m i : ℕ) → Okay (λ x j. Arg t names m i x (countWith t m i) j) (argAt t names m i)
+  pub arg-sound : (m i : ℕ) → Okay (λ x j. Arg t view m i x (countWith t m i) j) (argAt t view m i)
   unfolding argAt slotAt countWith
   arg-sound m i = slot-sound m i (isNamed t i) refl
 
-  pub items-sound : (fuel m i : ℕ) → Okay (Arg-list t names m i) (itemsFrom t names fuel m i)
+  pub items-sound : (fuel m i : ℕ) → Okay (Arg-list t view m i) (itemsFrom t view fuel m i)
   unfolding itemsFrom
   items-sound zero m i = tt
   items-sound (suc fuel) m i =
-      let G : List Item → ℕ → Type 0 = Arg-list t names m i in
-      bind-ok G (argAt t names m i) _ (arg-sound m i)
+      let G : List Item → ℕ → Type 0 = Arg-list t view m i in
+      bind-ok G (argAt t view m i) _ (arg-sound m i)
       (λ x j h.
       perhaps-ok G (isKind t 11 j) j _ _
       (λ e.
-      bind-ok G (itemsFrom t names fuel (countWith t m i) (j + 1)) _ (items-sound fuel (countWith t m i) (j + 1))
+      bind-ok G (itemsFrom t view fuel (countWith t m i) (j + 1)) _ (items-sound fuel (countWith t m i) (j + 1))
       (λ xs k g. more h (is-kind t 11 j e) g))
       (λ e. one h))
 
   -- what the items select, for any form that ends with it
-  module _ (G : Selector → ℕ → Type 0) (xs : List Item) (close next : ℕ) (ends : (s : Selector) → Selects t names xs s → G s next) where
+  module _ (G : Selector → ℕ → Type 0) (xs : List Item) (close next : ℕ) (ends : (s : Selector) → Selects t view xs s → G s next) where
     -- fields that hold what the items say are judged as the grammar does
     judged : {d : Dev} {n : Number} {g : GroupArg} {k : Number} {s : Scope} →
         Dev-in xs d → Inst-in xs n → Group-in xs g → Typed xs k → Scoped xs s →
-        Okay G (selected t names (record { dev = d; inst = n; group = g; kind = k; scope = s }) close next)
+        Okay G (selected t view (record { dev = d; inst = n; group = g; kind = k; scope = s }) close next)
     unfolding selected withGroup withDev withInst deviceInstance isDev isNumber
     judged {s = s} (dev {d} l) (inst {n} m) (no-group w) k c =
         let With : Ref → ℕ → Type 0 = λ ref j. G (Selector.Instance ref n) j in
-        bind-ok G (referred t names 4 lastShortAddress s next d) _
-        (refers-sound t names 4 lastShortAddress With d s next (λ ref h. ends _ (instance w l m c h)))
+        bind-ok G (referred t view inputKind lastShortAddress s next d) _
+        (refers-sound t view inputKind lastShortAddress With d s next (λ ref h. ends _ (instance w l m c h)))
         (λ ref j h. h)
-    judged {s = s} (no-dev w) (no-inst v) (in-group l) k c = ends _ (instances l w v c (on-adapter names s) k)
+    judged {s = s} (no-dev w) (no-inst v) (in-group l) k c = ends _ (instances l w v c (on-adapter view s) k)
     judged (no-dev w) n (no-group v) k c = tt
     judged (dev l) (no-inst w) (no-group v) k c = tt
     judged (no-dev w) (inst m) (in-group l) k c = tt
     judged (dev d) n (in-group l) k c = tt
 
-    pub selected-sound : Okay G (selected t names (puts noArgs xs) close next)
+    pub selected-sound : Okay G (selected t view (puts noArgs xs) close next)
     selected-sound = judged (dev-left xs) (inst-left xs) (group-left xs) (type-left xs) (scope-left xs)
 
   -- ARGS that are answered are a reading, whatever the fuel
-  pub args-sound : (fuel i : ℕ) → Okay (Args-of t names i) (inputSelector t names fuel i)
+  pub args-sound : (fuel i : ℕ) → Okay (Args-of t view i) (inputSelector t view fuel i)
   unfolding inputSelector closeArgs
   args-sound fuel i =
-      let G = Args-of t names i in
+      let G = Args-of t view i in
       bind-ok G (takeKind t 7 i) _ (kind-sound t 7 i)
       (λ a j left.
-      rw (args-items t names fuel noArgs 0 j)
-      (put-ok G (itemsFrom t names fuel 0 j) _ (items-sound fuel 0 j)
+      rw (args-items t view fuel noArgs 0 j)
+      (put-ok G (itemsFrom t view fuel 0 j) _ (items-sound fuel 0 j)
       (λ xs k h.
       bind-ok G (takeKind t 8 k) _ (kind-sound t 8 k) (λ b l right. selected-sound G xs k l (λ s g. args left h right g)))))
 
-  one-sound : {i j : ℕ} (s : Selector) → Args-of t names i s j → Okay (One-instance t names i) (oneInstance i j s)
+  one-sound : {i j : ℕ} (s : Selector) → Args-of t view i s j → Okay (One-instance t view i) (oneInstance i j s)
   unfolding oneInstance
   one-sound (Selector.Instance ref n) h = one-instance h
   one-sound (Selector.Group a g k) h = tt
 
   -- one instance that is answered is a reading of ARGS with one
-  pub one-instance-sound : (fuel i : ℕ) → Okay (One-instance t names i) (inputRef t names fuel i)
+  pub one-instance-sound : (fuel i : ℕ) → Okay (One-instance t view i) (inputRef t view fuel i)
   unfolding inputRef
   one-instance-sound fuel i =
-      bind-ok (One-instance t names i) (inputSelector t names fuel i) _ (args-sound fuel i) (λ s j h. one-sound s h)
+      bind-ok (One-instance t view i) (inputSelector t view fuel i) _ (args-sound fuel i) (λ s j h. one-sound s h)

@@ -8,13 +8,14 @@ use borrow.Author.Tests.{eq-eqb, ne-eqb, eqb-true, eqb-false}
 use Rattle.text.specs.Choice.{pick}
 use Rattle.tokens.specs.Result.{Res, ok, no, bind, perhaps, refuse}
 use Rattle.tokens.specs.Cursor.{Tok, isKind}
-use Rattle.references.specs.Sheet.{Names}
+use Rattle.sheet.specs.View.{View}
+use Rattle.references.specs.Arguments.{devSlot, instSlot, groupSlot, typeSlot, adapterSlot}
 use Rattle.references.specs.Args.{put, noArgs, argAt, countWith, argsFrom}
 use Rattle.references.specs.Grammar.{slot, Without, none, past, Last, last, later, Scoped, nowhere, somewhere, Typed, untyped, typed}
-use Rattle.references.specs.declared.resolve.Scope.{Scope}
+use Rattle.sheet.specs.declared.resolve.Scope.{Scope}
 use Rattle.references.specs.declared.refs.NameOrId.{NameOrId}
 use Rattle.references.specs.declared.args.Dev.{Dev}
-use Rattle.references.specs.declared.args.Number.{Number}
+use Rattle.model.specs.declared.Number.{Number}
 use Rattle.references.specs.declared.args.GroupArg.{GroupArg}
 use Rattle.references.specs.declared.args.Item.{Item}
 use Rattle.references.specs.declared.args.Args.{Args}
@@ -25,13 +26,13 @@ puts a [] = a
 puts a (x ∷ xs) = puts (put a x) xs
 
 -- the arguments from i on, as a list
-unfoldable pub itemsFrom : (ℕ → Tok) → Names → ℕ → ℕ → ℕ → Res (List Item)
-itemsFrom t names zero count i = refuse 20 i
-itemsFrom t names (suc fuel) count i =
-    bind (argAt t names count i)
+unfoldable pub itemsFrom : (ℕ → Tok) → View → ℕ → ℕ → ℕ → Res (List Item)
+itemsFrom t view zero count i = refuse 20 i
+itemsFrom t view (suc fuel) count i =
+    bind (argAt t view count i)
     (λ item j.
     perhaps (isKind t 11 j) j
-    (λ k. bind (itemsFrom t names fuel (countWith t count i) k) (λ xs l. ok (item ∷ xs) l)) (ok (item ∷ []) j))
+    (λ k. bind (itemsFrom t view fuel (countWith t count i) k) (λ xs l. ok (item ∷ xs) l)) (ok (item ∷ []) j))
 
 -- the definition answers that list, put
 abbrev pub putAll : Args → Res (List Item) → Res Args
@@ -52,23 +53,23 @@ put-bind : (a : Args) (m : Res Item) (f : Item → ℕ → Res Args) (g : Item �
 put-bind a (ok x j) f g h = h x j
 put-bind a (no r) f g h = refl
 
-pub args-items : (t : ℕ → Tok) (names : Names) (fuel : ℕ) (a : Args) (count i : ℕ) →
-    argsFrom t names fuel a count i ≡ putAll a (itemsFrom t names fuel count i)
+pub args-items : (t : ℕ → Tok) (view : View) (fuel : ℕ) (a : Args) (count i : ℕ) →
+    argsFrom t view fuel a count i ≡ putAll a (itemsFrom t view fuel count i)
 unfolding argsFrom itemsFrom
-args-items t names zero a count i = refl
-args-items t names (suc fuel) a count i =
-    put-bind a (argAt t names count i) _ _
+args-items t view zero a count i = refl
+args-items t view (suc fuel) a count i =
+    put-bind a (argAt t view count i) _ _
     (λ x j.
-    put-comma a x j (isKind t 11 j) _ (λ k. itemsFrom t names fuel (countWith t count i) k)
-    (λ k. args-items t names fuel (put a x) (countWith t count i) k))
+    put-comma a x j (isKind t 11 j) _ (λ k. itemsFrom t view fuel (countWith t count i) k)
+    (λ k. args-items t view fuel (put a x) (countWith t count i) k))
 
 -- an item of each argument
 pub data Of : ℕ → Item → Type 0 where
-  device : {d : NameOrId} → Of 1 (Item.Device d)
-  number : {n : ℕ} → Of 2 (Item.Instance n)
-  group : {n i : ℕ} → Of 3 (Item.Group n i)
-  type : {n : ℕ} → Of 4 (Item.Type n)
-  adapter : {a : ℕ} → Of 5 (Item.Adapter a)
+  device : {d : NameOrId} → Of devSlot (Item.Device d)
+  number : {n : ℕ} → Of instSlot (Item.Instance n)
+  group : {n i : ℕ} → Of groupSlot (Item.Group n i)
+  type : {n : ℕ} → Of typeSlot (Item.Type n)
+  adapter : {a : ℕ} → Of adapterSlot (Item.Adapter a)
 
 item-of : (x : Item) → Of (slot x) x
 unfolding slot
@@ -103,11 +104,11 @@ among k (x ∷ xs) = from (among k xs)
 abbrev replaced : Args → Item → Args
 replaced a x =
     record {
-      dev = pick (eqb (slot x) 1) (put noArgs x .dev) (a .dev);
-      inst = pick (eqb (slot x) 2) (put noArgs x .inst) (a .inst);
-      group = pick (eqb (slot x) 3) (put noArgs x .group) (a .group);
-      kind = pick (eqb (slot x) 4) (put noArgs x .kind) (a .kind);
-      scope = pick (eqb (slot x) 5) (put noArgs x .scope) (a .scope);
+      dev = pick (eqb (slot x) devSlot) (put noArgs x .dev) (a .dev);
+      inst = pick (eqb (slot x) instSlot) (put noArgs x .inst) (a .inst);
+      group = pick (eqb (slot x) groupSlot) (put noArgs x .group) (a .group);
+      kind = pick (eqb (slot x) typeSlot) (put noArgs x .kind) (a .kind);
+      scope = pick (eqb (slot x) adapterSlot) (put noArgs x .scope) (a .scope);
     }
 
 put-replaced : (a : Args) (x : Item) → put a x ≡ replaced a x
@@ -144,78 +145,78 @@ module _ {F : Type 0} (k : ℕ) (get : Args → F)
 -- Each field: that argument's last item, or nothing if there is none (X-left), and only that (X-is). Scoped and Typed of the grammar say
 -- it of the adapter and the type.
 pub data Dev-in (xs : List Item) : Dev → Type 0 where
-  no-dev : Without 1 xs → Dev-in xs Dev.Absent
-  dev : {d : NameOrId} → Last 1 xs (Item.Device d) → Dev-in xs (Dev.Is d)
+  no-dev : Without devSlot xs → Dev-in xs Dev.Absent
+  dev : {d : NameOrId} → Last devSlot xs (Item.Device d) → Dev-in xs (Dev.Is d)
 
 pub data Inst-in (xs : List Item) : Number → Type 0 where
-  no-inst : Without 2 xs → Inst-in xs Number.Absent
-  inst : {n : ℕ} → Last 2 xs (Item.Instance n) → Inst-in xs (Number.Is n)
+  no-inst : Without instSlot xs → Inst-in xs Number.Absent
+  inst : {n : ℕ} → Last instSlot xs (Item.Instance n) → Inst-in xs (Number.Is n)
 
 pub data Group-in (xs : List Item) : GroupArg → Type 0 where
-  no-group : Without 3 xs → Group-in xs GroupArg.Absent
-  in-group : {g i : ℕ} → Last 3 xs (Item.Group g i) → Group-in xs (GroupArg.Is g i)
+  no-group : Without groupSlot xs → Group-in xs GroupArg.Absent
+  in-group : {g i : ℕ} → Last groupSlot xs (Item.Group g i) → Group-in xs (GroupArg.Is g i)
 
-last-dev : {xs : List Item} (x : Item) → Of 1 x → Last 1 xs x → Dev-in xs (put noArgs x .dev)
+last-dev : {xs : List Item} (x : Item) → Of devSlot x → Last devSlot xs x → Dev-in xs (put noArgs x .dev)
 unfolding put
 last-dev x device l = dev l
 
 pub dev-left : (xs : List Item) → Dev-in xs (puts noArgs xs .dev)
 unfolding noArgs
-dev-left xs = left 1 (λ a. a .dev) (λ a x. refl) (Dev-in xs) xs no-dev last-dev
+dev-left xs = left devSlot (λ a. a .dev) (λ a x. refl) (Dev-in xs) xs no-dev last-dev
 
 pub dev-is : {xs : List Item} {v : Dev} → Dev-in xs v → puts noArgs xs .dev ≡ v
 unfolding noArgs put
-dev-is (no-dev w) = without-left 1 (λ a. a .dev) (λ a x. refl) noArgs w
-dev-is (dev l) = last-left 1 (λ a. a .dev) (λ a x. refl) noArgs l
+dev-is (no-dev w) = without-left devSlot (λ a. a .dev) (λ a x. refl) noArgs w
+dev-is (dev l) = last-left devSlot (λ a. a .dev) (λ a x. refl) noArgs l
 
-last-inst : {xs : List Item} (x : Item) → Of 2 x → Last 2 xs x → Inst-in xs (put noArgs x .inst)
+last-inst : {xs : List Item} (x : Item) → Of instSlot x → Last instSlot xs x → Inst-in xs (put noArgs x .inst)
 unfolding put
 last-inst x number l = inst l
 
 pub inst-left : (xs : List Item) → Inst-in xs (puts noArgs xs .inst)
 unfolding noArgs
-inst-left xs = left 2 (λ a. a .inst) (λ a x. refl) (Inst-in xs) xs no-inst last-inst
+inst-left xs = left instSlot (λ a. a .inst) (λ a x. refl) (Inst-in xs) xs no-inst last-inst
 
 pub inst-is : {xs : List Item} {v : Number} → Inst-in xs v → puts noArgs xs .inst ≡ v
 unfolding noArgs put
-inst-is (no-inst w) = without-left 2 (λ a. a .inst) (λ a x. refl) noArgs w
-inst-is (inst l) = last-left 2 (λ a. a .inst) (λ a x. refl) noArgs l
+inst-is (no-inst w) = without-left instSlot (λ a. a .inst) (λ a x. refl) noArgs w
+inst-is (inst l) = last-left instSlot (λ a. a .inst) (λ a x. refl) noArgs l
 
-last-group : {xs : List Item} (x : Item) → Of 3 x → Last 3 xs x → Group-in xs (put noArgs x .group)
+last-group : {xs : List Item} (x : Item) → Of groupSlot x → Last groupSlot xs x → Group-in xs (put noArgs x .group)
 unfolding put
 last-group x group l = in-group l
 
 pub group-left : (xs : List Item) → Group-in xs (puts noArgs xs .group)
 unfolding noArgs
-group-left xs = left 3 (λ a. a .group) (λ a x. refl) (Group-in xs) xs no-group last-group
+group-left xs = left groupSlot (λ a. a .group) (λ a x. refl) (Group-in xs) xs no-group last-group
 
 pub group-is : {xs : List Item} {v : GroupArg} → Group-in xs v → puts noArgs xs .group ≡ v
 unfolding noArgs put
-group-is (no-group w) = without-left 3 (λ a. a .group) (λ a x. refl) noArgs w
-group-is (in-group l) = last-left 3 (λ a. a .group) (λ a x. refl) noArgs l
+group-is (no-group w) = without-left groupSlot (λ a. a .group) (λ a x. refl) noArgs w
+group-is (in-group l) = last-left groupSlot (λ a. a .group) (λ a x. refl) noArgs l
 
-last-type : {xs : List Item} (x : Item) → Of 4 x → Last 4 xs x → Typed xs (put noArgs x .kind)
+last-type : {xs : List Item} (x : Item) → Of typeSlot x → Last typeSlot xs x → Typed xs (put noArgs x .kind)
 unfolding put
 last-type x type l = typed l
 
 pub type-left : (xs : List Item) → Typed xs (puts noArgs xs .kind)
 unfolding noArgs
-type-left xs = left 4 (λ a. a .kind) (λ a x. refl) (Typed xs) xs untyped last-type
+type-left xs = left typeSlot (λ a. a .kind) (λ a x. refl) (Typed xs) xs untyped last-type
 
 pub type-is : {xs : List Item} {v : Number} → Typed xs v → puts noArgs xs .kind ≡ v
 unfolding noArgs put
-type-is (untyped w) = without-left 4 (λ a. a .kind) (λ a x. refl) noArgs w
-type-is (typed l) = last-left 4 (λ a. a .kind) (λ a x. refl) noArgs l
+type-is (untyped w) = without-left typeSlot (λ a. a .kind) (λ a x. refl) noArgs w
+type-is (typed l) = last-left typeSlot (λ a. a .kind) (λ a x. refl) noArgs l
 
-last-scope : {xs : List Item} (x : Item) → Of 5 x → Last 5 xs x → Scoped xs (put noArgs x .scope)
+last-scope : {xs : List Item} (x : Item) → Of adapterSlot x → Last adapterSlot xs x → Scoped xs (put noArgs x .scope)
 unfolding put
 last-scope x adapter l = somewhere l
 
 pub scope-left : (xs : List Item) → Scoped xs (puts noArgs xs .scope)
 unfolding noArgs
-scope-left xs = left 5 (λ a. a .scope) (λ a x. refl) (Scoped xs) xs nowhere last-scope
+scope-left xs = left adapterSlot (λ a. a .scope) (λ a x. refl) (Scoped xs) xs nowhere last-scope
 
 pub scope-is : {xs : List Item} {v : Scope} → Scoped xs v → puts noArgs xs .scope ≡ v
 unfolding noArgs put
-scope-is (nowhere w) = without-left 5 (λ a. a .scope) (λ a x. refl) noArgs w
-scope-is (somewhere l) = last-left 5 (λ a. a .scope) (λ a x. refl) noArgs l
+scope-is (nowhere w) = without-left adapterSlot (λ a. a .scope) (λ a x. refl) noArgs w
+scope-is (somewhere l) = last-left adapterSlot (λ a. a .scope) (λ a x. refl) noArgs l

@@ -1,12 +1,6 @@
-pub mod FindLaws
-pub mod LineLaws
-pub mod SheetLaws
-pub mod ResolveLaws
-pub mod SkipLaws
 pub mod RefChain
 pub mod ArgChain
 pub mod ArgLaws
-pub mod Okay
 pub mod RefSound
 pub mod RefComplete
 pub mod ItemLaws

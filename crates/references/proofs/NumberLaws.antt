@@ -10,19 +10,20 @@ use Rattle.text.specs.Choice.{pick, within}
 use Rattle.tokens.specs.declared.cursor.Refusal.{Refusal}
 use Rattle.tokens.specs.Result.{Res, ok, no, bind, perhaps}
 use Rattle.tokens.specs.Cursor.{Tok, takeKind, takeWord, takeIn}
-use Rattle.references.specs.Sheet.{Names, Entry}
-use Rattle.references.specs.Resolve.{noneOf, chosen, resolved, elsewhere}
-use Rattle.references.specs.Refs.{nameAt, closedName, quotedName, nameOrId, adapterNumber, adapterAssign, adapterClause, foundAt, referred, closeR, openR, reference, lampRef, groupRef, deviceRef, devName, inputDeviceRef, lampTarget, groupTarget, lightTarget}
-use Rattle.references.specs.Args.{keySlot, namedSlot, unnamedSlot, slotAt, typeAt, deviceItem, instanceItem, groupItem, typeItem, adapterItem, itemAt, argAt, argsFrom, deviceInstance, withInst, withDev, withGroup, selected, closeArgs, inputSelector, oneInstance, inputRef}
-use Rattle.references.specs.declared.resolve.Scope.{Scope}
+use Rattle.sheet.specs.Sheet.{Entry}
+use Rattle.sheet.specs.View.{View}
+use Rattle.sheet.specs.Resolve.{noneOf, chosen, pickNamed, elsewhere}
+use Rattle.references.specs.Refs.{checkedName, closedName, quotedName, nameOrId, adapterNumber, adapterAssign, adapterClause, foundAt, referred, closeR, openR, reference, lampRef, groupRef, deviceRef, devName, inputDeviceRef, lampTarget, groupTarget, lightTarget}
+use Rattle.references.specs.Args.{keySlot, namedSlot, unnamedSlot, slotAt, inputTypeValue, deviceItem, instanceItem, groupItem, typeItem, adapterItem, itemAt, argAt, argsFrom, deviceInstance, withInst, withDev, withGroup, selected, closeArgs, inputSelector, oneInstance, inputRef}
+use Rattle.sheet.specs.declared.resolve.Scope.{Scope}
 use Rattle.references.specs.declared.refs.NameOrId.{NameOrId}
 use Rattle.references.specs.declared.refs.NameOrId.the-variants.{Name, Id}
 use Rattle.references.specs.declared.args.Args.{Args}
 use Rattle.references.specs.declared.args.Dev.{Dev}
-use Rattle.references.specs.declared.args.Number.{Number}
+use Rattle.model.specs.declared.Number.{Number}
 use Rattle.references.specs.declared.args.GroupArg.{GroupArg}
-use Rattle.references.specs.declared.args.Selector.{Selector}
-use Rattle.references.proofs.Okay.{both-true}
+use Rattle.model.specs.declared.Selector.{Selector}
+use Rattle.tokens.proofs.Okay.{both-true}
 
 -- a refusal, if it is one, has a number from 20 to 41
 unfoldable pub Refuses : {A : Type 0} → Res A → Type 0
@@ -83,8 +84,8 @@ found-refuses i j all (e ∷ f ∷ es) = no-refuses _ _ (two (elsewhere (e .adap
     two false = refl
 
 module _ (t : ℕ → Tok) where
-  name-refuses : (i : ℕ) → Refuses (nameAt t i)
-  unfolding nameAt
+  name-refuses : (i : ℕ) → Refuses (checkedName t i)
+  unfolding checkedName
   name-refuses i = search numbers
 
   pub quoted-refuses : (i : ℕ) → Refuses (quotedName t i)
@@ -95,75 +96,75 @@ module _ (t : ℕ → Tok) where
   unfolding nameOrId
   name-or-id-refuses i = search (numbers, name-refuses)
 
-module _ (t : ℕ → Tok) (names : Names) where
-  adapter-refuses : (i : ℕ) → Refuses (adapterNumber t names i)
+module _ (t : ℕ → Tok) (view : View) where
+  adapter-refuses : (i : ℕ) → Refuses (adapterNumber t view i)
   unfolding adapterNumber
   adapter-refuses i = search numbers
 
-  pub clause-refuses : (i : ℕ) → Refuses (adapterClause t names i)
+  pub clause-refuses : (i : ℕ) → Refuses (adapterClause t view i)
   unfolding adapterClause adapterAssign
   clause-refuses i = search (numbers, adapter-refuses)
 
-  referred-refuses : (kind most : ℕ) (scope : Scope) (j : ℕ) (target : NameOrId) → Refuses (referred t names kind most scope j target)
-  unfolding referred resolved
+  referred-refuses : (kind most : ℕ) (scope : Scope) (j : ℕ) (target : NameOrId) → Refuses (referred t view kind most scope j target)
+  unfolding referred pickNamed
   referred-refuses kind most scope j (Name i) = found-refuses i j _ _
   referred-refuses kind most scope j (Id n i) = search numbers
 
-  inside-refuses : (kind most i : ℕ) → Refuses (openR t names kind most i)
+  inside-refuses : (kind most i : ℕ) → Refuses (openR t view kind most i)
   unfolding openR closeR
   inside-refuses kind most i = search (numbers, name-or-id-refuses, clause-refuses, referred-refuses)
 
-  ref-refuses : (kind most i : ℕ) → Refuses (reference t names kind most i)
+  ref-refuses : (kind most i : ℕ) → Refuses (reference t view kind most i)
   unfolding reference
   ref-refuses kind most i = search (numbers, inside-refuses)
 
-  pub lamp-refuses : (i : ℕ) → Refuses (lampRef t names i)
+  pub lamp-refuses : (i : ℕ) → Refuses (lampRef t view i)
   unfolding lampRef
   lamp-refuses i = search ref-refuses
 
-  pub group-refuses : (i : ℕ) → Refuses (groupRef t names i)
+  pub group-refuses : (i : ℕ) → Refuses (groupRef t view i)
   unfolding groupRef
   group-refuses i = search ref-refuses
 
-  pub device-refuses : (i : ℕ) → Refuses (deviceRef t names i)
+  pub device-refuses : (i : ℕ) → Refuses (deviceRef t view i)
   unfolding deviceRef
   device-refuses i = search ref-refuses
 
-  pub input-device-refuses : (i : ℕ) → Refuses (inputDeviceRef t names i)
+  pub input-device-refuses : (i : ℕ) → Refuses (inputDeviceRef t view i)
   unfolding inputDeviceRef devName
   input-device-refuses i = search (numbers, inside-refuses)
 
-  pub target-refuses : (i : ℕ) → Refuses (lightTarget t names i)
+  pub target-refuses : (i : ℕ) → Refuses (lightTarget t view i)
   unfolding lightTarget lampTarget groupTarget
   target-refuses i = search (numbers, lamp-refuses, group-refuses)
 
   -- one argument
-  arg-refuses : (count i : ℕ) → Refuses (argAt t names count i)
-  unfolding argAt slotAt namedSlot keySlot unnamedSlot itemAt deviceItem instanceItem groupItem typeItem typeAt adapterItem
+  arg-refuses : (count i : ℕ) → Refuses (argAt t view count i)
+  unfolding argAt slotAt namedSlot keySlot unnamedSlot itemAt deviceItem instanceItem groupItem typeItem inputTypeValue adapterItem
   arg-refuses count i = search (numbers, name-or-id-refuses, adapter-refuses) depth 12
 
-  args-refuses : (fuel : ℕ) (a : Args) (count i : ℕ) → Refuses (argsFrom t names fuel a count i)
+  args-refuses : (fuel : ℕ) (a : Args) (count i : ℕ) → Refuses (argsFrom t view fuel a count i)
   unfolding argsFrom
   args-refuses zero a count i = search numbers
   args-refuses (suc fuel) a count i = search (numbers, arg-refuses, args-refuses fuel)
 
   -- the arguments judged
-  inst-refuses : (scope : Scope) (close next : ℕ) (d : NameOrId) (n : Number) → Refuses (withInst t names scope close next d n)
+  inst-refuses : (scope : Scope) (close next : ℕ) (d : NameOrId) (n : Number) → Refuses (withInst t view scope close next d n)
   unfolding withInst deviceInstance
   inst-refuses scope close next d Number.Absent = search numbers
   inst-refuses scope close next d (Number.Is n) = search (numbers, referred-refuses)
 
-  dev-refuses : (a : Args) (close next : ℕ) (d : Dev) → Refuses (withDev t names a close next d)
+  dev-refuses : (a : Args) (close next : ℕ) (d : Dev) → Refuses (withDev t view a close next d)
   unfolding withDev
   dev-refuses a close next Dev.Absent = search numbers
   dev-refuses a close next (Dev.Is d) = search inst-refuses
 
-  with-group-refuses : (a : Args) (close next : ℕ) (g : GroupArg) → Refuses (withGroup t names a close next g)
+  with-group-refuses : (a : Args) (close next : ℕ) (g : GroupArg) → Refuses (withGroup t view a close next g)
   unfolding withGroup
   with-group-refuses a close next GroupArg.Absent = search dev-refuses
   with-group-refuses a close next (GroupArg.Is g i) = search numbers
 
-  pub selector-refuses : (fuel i : ℕ) → Refuses (inputSelector t names fuel i)
+  pub selector-refuses : (fuel i : ℕ) → Refuses (inputSelector t view fuel i)
   unfolding inputSelector closeArgs selected
   selector-refuses fuel i = search (numbers, args-refuses, with-group-refuses)
 
@@ -172,9 +173,9 @@ unfolding oneInstance
 one-refuses paren next (Selector.Instance r n) = search numbers
 one-refuses paren next (Selector.Group a g k) = search numbers
 
-pub input-refuses : (t : ℕ → Tok) (names : Names) (fuel i : ℕ) → Refuses (inputRef t names fuel i)
+pub input-refuses : (t : ℕ → Tok) (view : View) (fuel i : ℕ) → Refuses (inputRef t view fuel i)
 unfolding inputRef
-input-refuses t names fuel i = search (numbers, selector-refuses, one-refuses)
+input-refuses t view fuel i = search (numbers, selector-refuses, one-refuses)
 
 -- those, and what a rule has of references
 pub ruleset refusals = (

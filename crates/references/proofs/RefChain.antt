@@ -9,55 +9,52 @@ use borrow.Author.Needs.{needs}
 use Rattle.text.specs.Choice.{pick}
 use Rattle.text.proofs.Tests.{lt-yes, lt-no, eq-yes, eq-no}
 use Rattle.tokens.specs.Result.{Res, ok, no, bind}
-use Rattle.tokens.specs.Cursor.{Tok, toTaken}
+use Rattle.tokens.specs.Cursor.{Tok}
 use Rattle.tokens.specs.declared.cursor.Cursor.{Cursor}
 use Rattle.tokens.specs.declared.cursor.Refusal.{Refusal}
-use Rattle.tokens.specs.declared.cursor.Taken.{Taken}
 use Rattle.tokens.proofs.Chain.{chain, taken-ok, taken-no, then-taken, stop-taken, perhaps-yes, perhaps-no}
-use Rattle.references.specs.Sheet.{Names, Entry}
-use Rattle.references.specs.Resolve.{resolved}
-use Rattle.references.specs.Refs.{adapterOr, foundAt, referred, toNamed, toName, toScope, toRef, toTarget}
-use Rattle.references.specs.declared.resolve.Scope.{Scope}
-use Rattle.references.specs.declared.resolve.Found.{Found}
-use Rattle.references.specs.declared.refs.Ref.{Ref}
+use Rattle.sheet.specs.Sheet.{Entry}
+use Rattle.sheet.specs.View.{View}
+use Rattle.sheet.specs.Resolve.{pickNamed}
+use Rattle.references.specs.Refs.{scopeOrPrimary, foundAt, referred, toIndex, toName, toScope, toRef, toTarget}
+use Rattle.sheet.specs.declared.resolve.Scope.{Scope}
+use Rattle.sheet.specs.declared.resolve.Found.{Found}
+use Rattle.model.specs.declared.Ref.{Ref}
 use Rattle.references.specs.declared.refs.NameOrId.{NameOrId}
-use Rattle.references.specs.declared.refs.LightTarget.{LightTarget}
-use Rattle.references.specs.declared.refs.Named.{Named}
+use Rattle.model.specs.declared.LightTarget.{LightTarget}
+use Rattle.references.specs.declared.refs.IndexAnswer.{IndexAnswer}
 use Rattle.references.specs.declared.refs.NameAnswer.{NameAnswer}
 use Rattle.references.specs.declared.refs.ScopeAnswer.{ScopeAnswer}
 use Rattle.references.specs.declared.refs.RefAnswer.{RefAnswer}
 use Rattle.references.specs.declared.refs.TargetAnswer.{TargetAnswer}
 
-pub taken-same : {a : Taken} {z : Res ℕ} (x : Res ℕ) → a ≡ toTaken z → z ≡ x → a ≡ toTaken x
-taken-same x e h = e ∙ ap toTaken h
+abbrev fromIndex : IndexAnswer → Res ℕ
+fromIndex (IndexAnswer.Got v c) = ok v (c .index)
+fromIndex (IndexAnswer.No r) = no r
 
-abbrev fromNamed : Named → Res ℕ
-fromNamed (Named.Got v c) = ok v (c .index)
-fromNamed (Named.No r) = no r
+is-index : (x : Res ℕ) {a b : IndexAnswer} → a ≡ toIndex x → a ≡ b → x ≡ fromIndex b
+unfolding toIndex
+is-index (ok v i) e m = ap fromIndex (sym e ∙ m)
+is-index (no r) e m = ap fromIndex (sym e ∙ m)
 
-is-named : (x : Res ℕ) {a b : Named} → a ≡ toNamed x → a ≡ b → x ≡ fromNamed b
-unfolding toNamed
-is-named (ok v i) e m = ap fromNamed (sym e ∙ m)
-is-named (no r) e m = ap fromNamed (sym e ∙ m)
+pub index-ok : (x : Res ℕ) {v : ℕ} {c : Cursor} → ok v (c .index) ≡ x → IndexAnswer.Got v c ≡ toIndex x
+unfolding toIndex
+index-ok x e = rw (sym e)
 
-pub named-ok : (x : Res ℕ) {v : ℕ} {c : Cursor} → ok v (c .index) ≡ x → Named.Got v c ≡ toNamed x
-unfolding toNamed
-named-ok x e = rw (sym e)
+pub index-no : (x : Res ℕ) {r : Refusal} → no r ≡ x → IndexAnswer.No r ≡ toIndex x
+unfolding toIndex
+index-no x e = rw (sym e)
 
-pub named-no : (x : Res ℕ) {r : Refusal} → no r ≡ x → Named.No r ≡ toNamed x
-unfolding toNamed
-named-no x e = rw (sym e)
+pub index-same : {a : IndexAnswer} {z : Res ℕ} (x : Res ℕ) → a ≡ toIndex z → z ≡ x → a ≡ toIndex x
+index-same x e h = e ∙ ap toIndex h
 
-pub named-same : {a : Named} {z : Res ℕ} (x : Res ℕ) → a ≡ toNamed z → z ≡ x → a ≡ toNamed x
-named-same x e h = e ∙ ap toNamed h
+pub then-index : {B : Type 0} {a : IndexAnswer} (x : Res ℕ) (f : ℕ → ℕ → Res B) {v : ℕ} {c : Cursor} {y : Res B} →
+    a ≡ toIndex x → a ≡ IndexAnswer.Got v c → y ≡ f v (c .index) → y ≡ bind x f
+then-index x f e m h = rw (is-index x e m) h
 
-pub then-named : {B : Type 0} {a : Named} (x : Res ℕ) (f : ℕ → ℕ → Res B) {v : ℕ} {c : Cursor} {y : Res B} →
-    a ≡ toNamed x → a ≡ Named.Got v c → y ≡ f v (c .index) → y ≡ bind x f
-then-named x f e m h = rw (is-named x e m) h
-
-pub stop-named : {B : Type 0} {a : Named} (x : Res ℕ) (f : ℕ → ℕ → Res B) {r : Refusal} →
-    a ≡ toNamed x → a ≡ Named.No r → no r ≡ bind x f
-stop-named x f e m = rw (is-named x e m)
+pub stop-index : {B : Type 0} {a : IndexAnswer} (x : Res ℕ) (f : ℕ → ℕ → Res B) {r : Refusal} →
+    a ≡ toIndex x → a ≡ IndexAnswer.No r → no r ≡ bind x f
+stop-index x f e m = rw (is-index x e m)
 
 abbrev fromName : NameAnswer → Res NameOrId
 fromName (NameAnswer.Got v c) = ok v (c .index)
@@ -172,15 +169,15 @@ pub stop-target : {B : Type 0} {a : TargetAnswer} (x : Res LightTarget) (f : Lig
 stop-target x f e m = rw (is-target x e m)
 
 -- a value x that the code takes apart: it was v, so the definition goes by v
-pub by-scope : (names : Names) (x : Scope) {v : Scope} {y : ℕ} → x ≡ v → y ≡ adapterOr names v → y ≡ adapterOr names x
-by-scope names x was h = rw was h
+pub by-scope : (view : View) (x : Scope) {v : Scope} {y : ℕ} → x ≡ v → y ≡ scopeOrPrimary view v → y ≡ scopeOrPrimary view x
+by-scope view x was h = rw was h
 
 pub by-found : (i j : ℕ) (x : Found) {v : Found} {y : Res Ref} → x ≡ v → y ≡ foundAt i j v → y ≡ foundAt i j x
 by-found i j x was h = rw was h
 
-pub by-target : (t : ℕ → Tok) (names : Names) (kind most : ℕ) (scope : Scope) (j : ℕ) (x : NameOrId) {v : NameOrId} {y : Res Ref} →
-    x ≡ v → y ≡ referred t names kind most scope j v → y ≡ referred t names kind most scope j x
-by-target t names kind most scope j x was h = rw was h
+pub by-target : (t : ℕ → Tok) (view : View) (kind most : ℕ) (scope : Scope) (j : ℕ) (x : NameOrId) {v : NameOrId} {y : Res Ref} →
+    x ≡ v → y ≡ referred t view kind most scope j v → y ≡ referred t view kind most scope j x
+by-target t view kind most scope j x was h = rw was h
 
 -- a test on the length of bytes p, as the code asked it of the same bytes q
 module _ {A : Type 0} (n : ℕ) (p : List ℕ) (a b : A) {x : A} {q : List ℕ} (same : q ≡ p) where
@@ -198,7 +195,7 @@ module _ {A : Type 0} (n : ℕ) (p : List ℕ) (a b : A) {x : A} {q : List ℕ} 
 
 -- what was found for a name p
 pub found-named : (i j kind : ℕ) (p : List ℕ) (scope : Scope) (rows : List Entry) {found : Found} {q : List ℕ} →
-    found ≡ resolved kind q scope rows → q ≡ p → foundAt i j found ≡ foundAt i j (resolved kind p scope rows)
+    found ≡ pickNamed kind q scope rows → q ≡ p → foundAt i j found ≡ foundAt i j (pickNamed kind p scope rows)
 found-named i j kind p scope rows f e = rw (f, e)
 
 -- a reference that was made of an adapter a
@@ -211,12 +208,11 @@ pub ruleset refs = (
   chain,
   perhaps-yes,
   perhaps-no,
-  taken-same,
-  named-ok,
-  named-no,
-  named-same,
-  then-named,
-  stop-named,
+  index-ok,
+  index-no,
+  index-same,
+  then-index,
+  stop-index,
   name-ok,
   name-no,
   name-same,

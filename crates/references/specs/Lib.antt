@@ -1,9 +1,4 @@
-pub mod Limits
-pub mod Find
-pub mod Line
-pub mod Sheet
-pub mod Resolve
-pub mod Scope
 pub mod Refs
+pub mod Arguments
 pub mod Args
 pub mod Grammar

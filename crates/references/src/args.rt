@@ -2,10 +2,15 @@
 use crate::refs;
 use crate::refs::NameAnswer;
 use crate::refs::NameOrId;
-use crate::refs::Ref;
 use crate::refs::RefAnswer;
-use crate::resolve::Scope;
-use crate::sheet::Settings;
+use model::InputRef;
+use model::Number;
+use model::Ref;
+use model::Selector;
+use model::limits;
+use sheet::Settings;
+use sheet::kind;
+use sheet::resolve::Scope;
 use tokens::cursor::Accepted;
 use tokens::cursor::Cursor;
 use tokens::cursor::Refusal;
@@ -13,17 +18,36 @@ use tokens::cursor::Taken;
 ghost use mathlib.Core.Path.{_≡_};
 ghost use Rattle.tokens.specs.Cursor.{tokens, toTaken};
 ghost use Rattle.tokens.specs.Record.{capacity};
-ghost use Rattle.references.specs.Sheet.{viewOf};
-ghost use Rattle.references.specs.Args.{slotOf, isNamed, keySlot, namedSlot, unnamedSlot, slotAt, typeWord, typeAt, deviceItem, instanceItem, groupItem, typeItem, adapterItem, itemAt, put, argAt, countWith, argsFrom, noArgs, deviceInstance, withInst, withDev, isDev, isNumber, selected, closeArgs, inputSelector, oneInstance, inputRef, toItem, toArgs, toSelector, toInput};
+ghost use Rattle.sheet.specs.View.{viewOf};
+ghost use Rattle.references.specs.Args.{slotOf, isNamed, keySlot, namedSlot, unnamedSlot, slotAt, typeWord, inputTypeValue, deviceItem, instanceItem, groupItem, typeItem, adapterItem, itemAt, put, argAt, countWith, argsFrom, noArgs, deviceInstance, withInst, withDev, isDev, isNumber, selected, closeArgs, inputSelector, oneInstance, inputRef, toItem, toArgs, toSelector, toInput};
+
+// The arguments by number.
+pub const NO_SLOT: u32 = 0;
+
+pub const DEV_SLOT: u32 = 1;
+
+pub const INST_SLOT: u32 = 2;
+
+pub const GROUP_SLOT: u32 = 3;
+
+pub const TYPE_SLOT: u32 = 4;
+
+pub const ADAPTER_SLOT: u32 = 5;
+
+// The instance types that have a word (IEC 62386-301 to -304); none for any other word.
+pub const NO_TYPE: u32 = 0;
+
+pub const PUSH_BUTTON: u32 = 1;
+
+pub const ABSOLUTE_INPUT: u32 = 2;
+
+pub const OCCUPANCY_SENSOR: u32 = 3;
+
+pub const LIGHT_SENSOR: u32 = 4;
 
 pub enum Dev {
     Absent,
     Is(NameOrId),
-}
-
-pub enum Number {
-    Absent,
-    Is(u32),
 }
 
 // An instance group, and the index of its number's token.
@@ -51,17 +75,6 @@ pub struct Args {
     pub scope: Scope,
 }
 
-// What `input(…)` selects: an instance of a device, or a group of instances on an adapter, perhaps of one type.
-pub enum Selector {
-    Instance(Ref, u32),
-    Group(u32, u32, Number),
-}
-
-pub struct InputRef {
-    pub device: Ref,
-    pub instance: u32,
-}
-
 // The answers: a value and the cursor behind it, or a refusal.
 pub enum ItemAnswer {
     Got(Item, Cursor),
@@ -83,36 +96,36 @@ pub enum InputAnswer {
     No(Refusal),
 }
 
-// Which argument the key names: dev 1, inst 2, group 3, type 4, adapter 5; 0 of any other word.
+// Which argument the key names.
 fn slot_of(w: &[u8]) -> u32
     ensures { λ r. ⌜ r ≡ slotOf (now (w .entry)) ⌝ }
 {
     if text::part::same(w, b"dev") {
-        return 1;
+        return DEV_SLOT;
     }
     if text::part::same(w, b"inst") {
-        return 2;
+        return INST_SLOT;
     }
     if text::part::same(w, b"group") {
-        return 3;
+        return GROUP_SLOT;
     }
     if text::part::same(w, b"type") {
-        return 4;
+        return TYPE_SLOT;
     }
     if text::part::same(w, b"adapter") {
-        return 5;
+        return ADAPTER_SLOT;
     }
-    0
+    NO_SLOT
 }
 
 // A word and `=`?
 fn is_named(c: Cursor, text: &[u8], words: &[u32]) -> bool
     ensures { λ r. ⌜ r ≡ isNamed (tokens (now (text .entry)) (now (words .entry))) (c .index) ⌝ }
 {
-    let word = c.accept(text, words, 1);
+    let word = c.accept(text, words, tokens::kind::WORD);
     match word {
         Accepted::Left => false,
-        Accepted::Yes(next) => next.peek_is(text, words, 14),
+        Accepted::Yes(next) => next.peek_is(text, words, tokens::kind::ASSIGN),
     }
 }
 
@@ -121,11 +134,11 @@ fn named_slot(c: Cursor, text: &[u8], words: &[u32]) -> Taken
     ensures { λ r. ⌜ r ≡ toTaken (namedSlot (tokens (now (text .entry)) (now (words .entry))) (c .index)) ⌝ }
 {
     let i = c.index;
-    let word = c.expect(text, words, 1);
+    let word = c.expect(text, words, tokens::kind::WORD);
     match word {
         Taken::No(refusal) => Taken::No(refusal),
         Taken::Got(_, next) => {
-            let assign = next.expect(text, words, 14);
+            let assign = next.expect(text, words, tokens::kind::ASSIGN);
             match assign {
                 Taken::No(refusal) => Taken::No(refusal),
                 Taken::Got(_, behind) => key_slot(i, text, words, behind),
@@ -138,8 +151,8 @@ fn named_slot(c: Cursor, text: &[u8], words: &[u32]) -> Taken
 fn key_slot(i: usize, text: &[u8], words: &[u32], behind: Cursor) -> Taken
     ensures { λ r. ⌜ r ≡ toTaken (keySlot (tokens (now (text .entry)) (now (words .entry))) i (behind .index)) ⌝ }
 {
-    let slot = slot_of(tokens::record::bytes(text, words, i));
-    if slot == 0 {
+    let slot = slot_of(tokens::cursor::bytes(text, words, i));
+    if slot == NO_SLOT {
         return Taken::No(tokens::cursor::refuse(21, i));
     }
     Taken::Got(slot, behind)
@@ -151,10 +164,10 @@ fn unnamed_slot(c: Cursor, count: u32) -> Taken
 {
     let i = c.index;
     if count == 0 {
-        return Taken::Got(1, c);
+        return Taken::Got(DEV_SLOT, c);
     }
     if count == 1 {
-        return Taken::Got(2, c);
+        return Taken::Got(INST_SLOT, c);
     }
     Taken::No(tokens::cursor::refuse(26, i))
 }
@@ -168,35 +181,35 @@ fn slot_at(c: Cursor, text: &[u8], words: &[u32], count: u32) -> Taken
     unnamed_slot(c, count)
 }
 
-// button 1, absolute 2, occupancy 3, light 4; 0 of any other word.
+// The instance type that a word names.
 fn type_word(w: &[u8]) -> u32
     ensures { λ r. ⌜ r ≡ typeWord (now (w .entry)) ⌝ }
 {
     if text::part::same(w, b"button") {
-        return 1;
+        return PUSH_BUTTON;
     }
     if text::part::same(w, b"absolute") {
-        return 2;
+        return ABSOLUTE_INPUT;
     }
     if text::part::same(w, b"occupancy") {
-        return 3;
+        return OCCUPANCY_SENSOR;
     }
     if text::part::same(w, b"light") {
-        return 4;
+        return LIGHT_SENSOR;
     }
-    0
+    NO_TYPE
 }
 
-fn type_at(c: Cursor, text: &[u8], words: &[u32]) -> Taken
-    ensures { λ r. ⌜ r ≡ toTaken (typeAt (tokens (now (text .entry)) (now (words .entry))) (c .index)) ⌝ }
+fn input_type_value(c: Cursor, text: &[u8], words: &[u32]) -> Taken
+    ensures { λ r. ⌜ r ≡ toTaken (inputTypeValue (tokens (now (text .entry)) (now (words .entry))) (c .index)) ⌝ }
 {
     let i = c.index;
-    let word = c.accept(text, words, 1);
+    let word = c.accept(text, words, tokens::kind::WORD);
     match word {
-        Accepted::Left => c.expect_int_in(text, words, 0, 31),
+        Accepted::Left => c.expect_int_in(text, words, 0, limits::MAX_INSTANCE_TYPE),
         Accepted::Yes(next) => {
-            let kind = type_word(tokens::record::bytes(text, words, i));
-            if kind == 0 {
+            let kind = type_word(tokens::cursor::bytes(text, words, i));
+            if kind == NO_TYPE {
                 return Taken::No(tokens::cursor::refuse(21, i));
             }
             Taken::Got(kind, next)
@@ -217,7 +230,7 @@ fn device_item(c: Cursor, text: &[u8], words: &[u32]) -> ItemAnswer
 fn instance_item(c: Cursor, text: &[u8], words: &[u32]) -> ItemAnswer
     ensures { λ r. ⌜ r ≡ toItem (instanceItem (tokens (now (text .entry)) (now (words .entry))) (c .index)) ⌝ }
 {
-    let inst = c.expect_int_in(text, words, 0, 31);
+    let inst = c.expect_int_in(text, words, 0, limits::MAX_INSTANCE);
     match inst {
         Taken::No(refusal) => ItemAnswer::No(refusal),
         Taken::Got(n, next) => ItemAnswer::Got(Item::Instance(n), next),
@@ -228,7 +241,7 @@ fn group_item(c: Cursor, text: &[u8], words: &[u32]) -> ItemAnswer
     ensures { λ r. ⌜ r ≡ toItem (groupItem (tokens (now (text .entry)) (now (words .entry))) (c .index)) ⌝ }
 {
     let i = c.index;
-    let group = c.expect_int_in(text, words, 0, 31);
+    let group = c.expect_int_in(text, words, 0, limits::MAX_INSTANCE_GROUP);
     match group {
         Taken::No(refusal) => ItemAnswer::No(refusal),
         Taken::Got(n, next) => ItemAnswer::Got(Item::Group(n, i), next),
@@ -238,7 +251,7 @@ fn group_item(c: Cursor, text: &[u8], words: &[u32]) -> ItemAnswer
 fn type_item(c: Cursor, text: &[u8], words: &[u32]) -> ItemAnswer
     ensures { λ r. ⌜ r ≡ toItem (typeItem (tokens (now (text .entry)) (now (words .entry))) (c .index)) ⌝ }
 {
-    let kind = type_at(c, text, words);
+    let kind = input_type_value(c, text, words);
     match kind {
         Taken::No(refusal) => ItemAnswer::No(refusal),
         Taken::Got(n, next) => ItemAnswer::Got(Item::Type(n), next),
@@ -266,16 +279,16 @@ fn item_at(
 ) -> ItemAnswer
     ensures { λ r. ⌜ r ≡ toItem (itemAt (tokens (now (text .entry)) (now (words .entry))) (viewOf settings (now (s .entry))) slot (c .index)) ⌝ }
 {
-    if slot == 1 {
+    if slot == DEV_SLOT {
         return device_item(c, text, words);
     }
-    if slot == 2 {
+    if slot == INST_SLOT {
         return instance_item(c, text, words);
     }
-    if slot == 3 {
+    if slot == GROUP_SLOT {
         return group_item(c, text, words);
     }
-    if slot == 4 {
+    if slot == TYPE_SLOT {
         return type_item(c, text, words);
     }
     adapter_item(c, text, words, s, settings)
@@ -386,7 +399,7 @@ fn args_list(c: Cursor, text: &[u8], words: &[u32], s: &[u8], settings: Settings
             ItemAnswer::Got(item, next) => {
                 args = put_item(args, item);
                 count = count_with(p, text, words, count);
-                let comma = next.accept(text, words, 11);
+                let comma = next.accept(text, words, tokens::kind::COMMA);
                 match comma {
                     Accepted::Left => {
                         return ArgsAnswer::Got(args, next);
@@ -415,7 +428,17 @@ fn device_instance(
 ) -> SelectorAnswer
     ensures { λ r. ⌜ r ≡ toSelector (deviceInstance (tokens (now (text .entry)) (now (words .entry))) (viewOf settings (now (s .entry))) scope (next .index) d n) ⌝ }
 {
-    let device = refs::referred_to(next, text, words, s, settings, 4, Ref::MAX_INPUT, scope, d);
+    let device = refs::referred_to(
+        next,
+        text,
+        words,
+        s,
+        settings,
+        kind::INPUT,
+        Ref::MAX_INPUT,
+        scope,
+        d,
+    );
     match device {
         RefAnswer::No(refusal) => SelectorAnswer::No(refusal),
         RefAnswer::Got(r, behind) => SelectorAnswer::Got(Selector::Instance(r, n), behind),
@@ -506,7 +529,7 @@ fn selected_by(
                 return SelectorAnswer::No(tokens::cursor::refuse(27, i));
             }
             SelectorAnswer::Got(
-                Selector::Group(refs::adapter_or(settings, scope, s), g, kind),
+                Selector::Group(refs::scope_or_primary(settings, scope, s), g, kind),
                 next,
             )
         }
@@ -524,7 +547,7 @@ fn close_args(
     ensures { λ r. ⌜ r ≡ toSelector (closeArgs (tokens (now (text .entry)) (now (words .entry))) (viewOf settings (now (s .entry))) a (c .index)) ⌝ }
 {
     let i = c.index;
-    let close = c.expect(text, words, 8);
+    let close = c.expect(text, words, tokens::kind::CLOSE);
     match close {
         Taken::No(refusal) => SelectorAnswer::No(refusal),
         Taken::Got(_, next) => selected_by(next, text, words, s, settings, a, i),
@@ -541,7 +564,7 @@ pub fn input_selector(
 ) -> SelectorAnswer
     ensures { λ r. ⌜ r ≡ toSelector (inputSelector (tokens (now (text .entry)) (now (words .entry))) (viewOf settings (now (s .entry))) (capacity (now (words .entry))) (c .index)) ⌝ }
 {
-    let open = c.expect(text, words, 7);
+    let open = c.expect(text, words, tokens::kind::OPEN);
     match open {
         Taken::No(refusal) => SelectorAnswer::No(refusal),
         Taken::Got(_, next) => {

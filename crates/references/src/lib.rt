@@ -1,7 +1,3 @@
-// The reference layer: the name sheet, and what refers into it.
+// The reference layer: what refers into the name sheet.
 pub mod args;
-pub mod find;
-pub mod line;
 pub mod refs;
-pub mod resolve;
-pub mod sheet;

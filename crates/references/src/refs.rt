@@ -1,24 +1,22 @@
 // References, ported from refs.rs: R, DEV, TARGET and Q.
-use crate::resolve;
-use crate::resolve::Found;
-use crate::resolve::Scope;
-use crate::sheet;
-use crate::sheet::Settings;
+use model::LightTarget;
+use model::Ref;
+use model::limits;
+use sheet::Settings;
+use sheet::kind;
+use sheet::resolve;
+use sheet::resolve::Found;
+use sheet::resolve::Scope;
+use sheet::rows;
 use tokens::cursor::Accepted;
 use tokens::cursor::Cursor;
 use tokens::cursor::Refusal;
 use tokens::cursor::Taken;
 ghost use mathlib.Core.Path.{_≡_};
 ghost use Rattle.tokens.specs.Cursor.{tokens, toTaken};
-ghost use Rattle.references.specs.Limits.{lastShortAddress, lastGroup};
-ghost use Rattle.references.specs.Sheet.{viewOf};
-ghost use Rattle.references.specs.Refs.{nameAt, closedName, quotedName, nameOrId, adapterNumber, adapterAssign, adapterClause, adapterOr, foundAt, referred, closeR, openR, reference, lampRef, groupRef, deviceRef, devName, inputDeviceRef, lampTarget, groupTarget, lightTarget, toNamed, toName, toScope, toRef, toTarget};
-
-// What a reference is to: an adapter and a number on it.
-pub struct Ref {
-    pub adapter: u32,
-    pub number: u32,
-}
+ghost use Rattle.model.specs.Limits.{lastShortAddress, lastGroup};
+ghost use Rattle.sheet.specs.View.{viewOf};
+ghost use Rattle.references.specs.Refs.{checkedName, closedName, quotedName, nameOrId, adapterNumber, adapterAssign, adapterClause, scopeOrPrimary, foundAt, referred, closeR, openR, reference, lampRef, groupRef, deviceRef, devName, inputDeviceRef, lampTarget, groupTarget, lightTarget, toIndex, toName, toScope, toRef, toTarget};
 
 // A name, by its token's index, or an id and its token's index.
 pub enum NameOrId {
@@ -26,14 +24,8 @@ pub enum NameOrId {
     Id(u32, usize),
 }
 
-pub enum LightTarget {
-    Lamp(Ref),
-    Group(Ref),
-    Broadcast(u32),
-}
-
 // The answers: a value and the cursor behind it, or a refusal.
-pub enum Named {
+pub enum IndexAnswer {
     Got(usize, Cursor),
     No(Refusal),
 }
@@ -58,37 +50,20 @@ pub enum TargetAnswer {
     No(Refusal),
 }
 
-// The highest number of each kind of reference.
-impl Ref {
-    pub const MAX_LAMP: u32 = 63;
-
-    pub const MAX_GROUP: u32 = 15;
-
-    pub const MAX_DEVICE: u32 = 63;
-
-    pub const MAX_INPUT: u32 = 63;
-
-    pub fn new(adapter: u32, number: u32) -> Self
-        ensures { λ r. ⌜ r ≡ record { adapter = adapter; number = number } ⌝ }
-    {
-        Ref { adapter, number }
-    }
-}
-
 // A quoted name of 1 to 48 bytes.
 pub fn checked_name(c: Cursor, text: &[u8], words: &[u32]) -> Taken
-    ensures { λ r. ⌜ r ≡ toTaken (nameAt (tokens (now (text .entry)) (now (words .entry))) (c .index)) ⌝ }
+    ensures { λ r. ⌜ r ≡ toTaken (checkedName (tokens (now (text .entry)) (now (words .entry))) (c .index)) ⌝ }
 {
     let i = c.index;
     let taken = c.expect_string(text, words);
     match taken {
         Taken::No(refusal) => Taken::No(refusal),
         Taken::Got(n, next) => {
-            let name = tokens::record::bytes(text, words, i);
+            let name = tokens::cursor::bytes(text, words, i);
             if name.len() == 0 {
                 return Taken::No(tokens::cursor::refuse(23, i));
             }
-            if 48 < name.len() {
+            if limits::MAX_NAME_BYTES < name.len() {
                 return Taken::No(tokens::cursor::refuse(24, i));
             }
             Taken::Got(n, next)
@@ -96,30 +71,30 @@ pub fn checked_name(c: Cursor, text: &[u8], words: &[u32]) -> Taken
     }
 }
 
-fn closed_name(c: Cursor, text: &[u8], words: &[u32]) -> Named
-    ensures { λ r. ⌜ r ≡ toNamed (closedName (tokens (now (text .entry)) (now (words .entry))) (c .index)) ⌝ }
+fn closed_name(c: Cursor, text: &[u8], words: &[u32]) -> IndexAnswer
+    ensures { λ r. ⌜ r ≡ toIndex (closedName (tokens (now (text .entry)) (now (words .entry))) (c .index)) ⌝ }
 {
     let i = c.index;
     let name = checked_name(c, text, words);
     match name {
-        Taken::No(refusal) => Named::No(refusal),
+        Taken::No(refusal) => IndexAnswer::No(refusal),
         Taken::Got(_, next) => {
-            let close = next.expect(text, words, 8);
+            let close = next.expect(text, words, tokens::kind::CLOSE);
             match close {
-                Taken::No(refusal) => Named::No(refusal),
-                Taken::Got(_, behind) => Named::Got(i, behind),
+                Taken::No(refusal) => IndexAnswer::No(refusal),
+                Taken::Got(_, behind) => IndexAnswer::Got(i, behind),
             }
         }
     }
 }
 
 // Q: a quoted name in parentheses, which is not looked up.
-pub fn quoted_name(c: Cursor, text: &[u8], words: &[u32]) -> Named
-    ensures { λ r. ⌜ r ≡ toNamed (quotedName (tokens (now (text .entry)) (now (words .entry))) (c .index)) ⌝ }
+pub fn quoted_name(c: Cursor, text: &[u8], words: &[u32]) -> IndexAnswer
+    ensures { λ r. ⌜ r ≡ toIndex (quotedName (tokens (now (text .entry)) (now (words .entry))) (c .index)) ⌝ }
 {
-    let open = c.expect(text, words, 7);
+    let open = c.expect(text, words, tokens::kind::OPEN);
     match open {
-        Taken::No(refusal) => Named::No(refusal),
+        Taken::No(refusal) => IndexAnswer::No(refusal),
         Taken::Got(_, next) => closed_name(next, text, words),
     }
 }
@@ -128,7 +103,7 @@ pub fn name_or_id(c: Cursor, text: &[u8], words: &[u32]) -> NameAnswer
     ensures { λ r. ⌜ r ≡ toName (nameOrId (tokens (now (text .entry)) (now (words .entry))) (c .index)) ⌝ }
 {
     let i = c.index;
-    if c.peek_is(text, words, 2) {
+    if c.peek_is(text, words, tokens::kind::STRING) {
         let name = checked_name(c, text, words);
         return match name {
             Taken::No(refusal) => NameAnswer::No(refusal),
@@ -147,11 +122,11 @@ pub fn adapter_number(c: Cursor, text: &[u8], words: &[u32], s: &[u8], settings:
     ensures { λ r. ⌜ r ≡ toTaken (adapterNumber (tokens (now (text .entry)) (now (words .entry))) (viewOf settings (now (s .entry))) (c .index)) ⌝ }
 {
     let i = c.index;
-    let taken = c.expect_int_in(text, words, 0, 255);
+    let taken = c.expect_int_in(text, words, 0, limits::MAX_ADAPTER);
     match taken {
         Taken::No(refusal) => Taken::No(refusal),
         Taken::Got(a, next) => {
-            if sheet::adapter_exists(s, a) {
+            if rows::adapter_exists(s, settings, a) {
                 return Taken::Got(a, next);
             }
             Taken::No(tokens::cursor::refuse(25, i))
@@ -167,7 +142,7 @@ fn adapter_assign(c: Cursor, text: &[u8], words: &[u32], s: &[u8], settings: Set
     match word {
         Taken::No(refusal) => Taken::No(refusal),
         Taken::Got(_, next) => {
-            let assign = next.expect(text, words, 14);
+            let assign = next.expect(text, words, tokens::kind::ASSIGN);
             match assign {
                 Taken::No(refusal) => Taken::No(refusal),
                 Taken::Got(_, behind) => adapter_number(behind, text, words, s, settings),
@@ -186,7 +161,7 @@ pub fn adapter_clause(
 ) -> ScopeAnswer
     ensures { λ r. ⌜ r ≡ toScope (adapterClause (tokens (now (text .entry)) (now (words .entry))) (viewOf settings (now (s .entry))) (c .index)) ⌝ }
 {
-    let comma = c.accept(text, words, 11);
+    let comma = c.accept(text, words, tokens::kind::COMMA);
     match comma {
         Accepted::Left => ScopeAnswer::Got(Scope::Any, c),
         Accepted::Yes(next) => {
@@ -200,8 +175,8 @@ pub fn adapter_clause(
 }
 
 // The adapter of an id: the one in its parentheses, or the primary.
-pub fn adapter_or(settings: Settings, scope: Scope, s: &[u8]) -> u32
-    ensures { λ r. ⌜ r ≡ adapterOr (viewOf settings (now (s .entry))) scope ⌝ }
+pub fn scope_or_primary(settings: Settings, scope: Scope, s: &[u8]) -> u32
+    ensures { λ r. ⌜ r ≡ scopeOrPrimary (viewOf settings (now (s .entry))) scope ⌝ }
 {
     match scope {
         Scope::Any => settings.primary,
@@ -239,12 +214,12 @@ pub fn referred_to(
 {
     match target {
         NameOrId::Name(i) => {
-            let name = tokens::record::bytes(text, words, i);
-            found_at(i, next, resolve::resolve(s, kind, name, scope))
+            let name = tokens::cursor::bytes(text, words, i);
+            found_at(i, next, resolve::pick_named(s, settings, kind, name, scope))
         }
         NameOrId::Id(n, i) => {
             if n <= most {
-                return RefAnswer::Got(Ref::new(adapter_or(settings, scope, s), n), next);
+                return RefAnswer::Got(Ref::new(scope_or_primary(settings, scope, s), n), next);
             }
             RefAnswer::No(tokens::cursor::refuse(22, i))
         }
@@ -268,7 +243,7 @@ fn close_reference(
     match clause {
         ScopeAnswer::No(refusal) => RefAnswer::No(refusal),
         ScopeAnswer::Got(scope, next) => {
-            let close = next.expect(text, words, 8);
+            let close = next.expect(text, words, tokens::kind::CLOSE);
             match close {
                 Taken::No(refusal) => RefAnswer::No(refusal),
                 Taken::Got(_, behind) => referred_to(
@@ -326,7 +301,7 @@ fn reference_of(
 ) -> RefAnswer
     ensures { λ r. ⌜ r ≡ toRef (reference (tokens (now (text .entry)) (now (words .entry))) (viewOf settings (now (s .entry))) kind most (c .index)) ⌝ }
 {
-    let open = c.expect(text, words, 7);
+    let open = c.expect(text, words, tokens::kind::OPEN);
     match open {
         Taken::No(refusal) => RefAnswer::No(refusal),
         Taken::Got(_, next) => open_reference(next, text, words, s, settings, kind, most),
@@ -336,19 +311,19 @@ fn reference_of(
 pub fn lamp_ref(c: Cursor, text: &[u8], words: &[u32], s: &[u8], settings: Settings) -> RefAnswer
     ensures { λ r. ⌜ r ≡ toRef (lampRef (tokens (now (text .entry)) (now (words .entry))) (viewOf settings (now (s .entry))) (c .index)) ⌝ }
 {
-    reference_of(c, text, words, s, settings, 1, Ref::MAX_LAMP)
+    reference_of(c, text, words, s, settings, kind::LAMP, Ref::MAX_LAMP)
 }
 
 pub fn group_ref(c: Cursor, text: &[u8], words: &[u32], s: &[u8], settings: Settings) -> RefAnswer
     ensures { λ r. ⌜ r ≡ toRef (groupRef (tokens (now (text .entry)) (now (words .entry))) (viewOf settings (now (s .entry))) (c .index)) ⌝ }
 {
-    reference_of(c, text, words, s, settings, 2, Ref::MAX_GROUP)
+    reference_of(c, text, words, s, settings, kind::GROUP, Ref::MAX_GROUP)
 }
 
 pub fn device_ref(c: Cursor, text: &[u8], words: &[u32], s: &[u8], settings: Settings) -> RefAnswer
     ensures { λ r. ⌜ r ≡ toRef (deviceRef (tokens (now (text .entry)) (now (words .entry))) (viewOf settings (now (s .entry))) (c .index)) ⌝ }
 {
-    reference_of(c, text, words, s, settings, 3, Ref::MAX_DEVICE)
+    reference_of(c, text, words, s, settings, kind::DEVICE, Ref::MAX_DEVICE)
 }
 
 // Perhaps `dev =`.
@@ -358,7 +333,7 @@ fn dev_name(c: Cursor, text: &[u8], words: &[u32]) -> Taken
     let dev = c.accept_kw(text, words, b"dev");
     match dev {
         Accepted::Left => Taken::Got(0, c),
-        Accepted::Yes(next) => next.expect(text, words, 14),
+        Accepted::Yes(next) => next.expect(text, words, tokens::kind::ASSIGN),
     }
 }
 
@@ -371,7 +346,7 @@ pub fn input_device_ref(
 ) -> RefAnswer
     ensures { λ r. ⌜ r ≡ toRef (inputDeviceRef (tokens (now (text .entry)) (now (words .entry))) (viewOf settings (now (s .entry))) (c .index)) ⌝ }
 {
-    let open = c.expect(text, words, 7);
+    let open = c.expect(text, words, tokens::kind::OPEN);
     match open {
         Taken::No(refusal) => RefAnswer::No(refusal),
         Taken::Got(_, next) => {
@@ -384,7 +359,7 @@ pub fn input_device_ref(
                     words,
                     s,
                     settings,
-                    4,
+                    kind::INPUT,
                     Ref::MAX_INPUT,
                 ),
             }

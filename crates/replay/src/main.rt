@@ -1,50 +1,74 @@
 // The replay program: reads cases, hands each to the reader, and writes one answer a case. docs/REPLAY.md has its format.
+mod forms;
 mod input;
+mod layout;
+mod list;
 mod out;
 mod report;
 mod show;
 
-// One case; false at the end of the input, and where it is no case.
-fn one_case() -> bool {
-    let mut text = [0u8; 20000];
-    let mut sheet = [0u8; 20000];
-    let mut words = [4294967295u32; 8192];
-    let h = input::next_header();
-    if h.ended {
+// Room for the longest text or sheet of a case, with its line end.
+const BYTES: usize = 20001;
+
+// The most words that a case lends.
+const WORDS: usize = 8192;
+
+// Calls the reader with so many words and writes its answer; false where there are fewer.
+fn call(id: u64, text: &[u8], sheet: &[u8], words: &mut [u32], count: usize) -> bool {
+    if words.len() < count {
         return false;
     }
-    if !h.good {
-        return bad_input();
-    }
-    if !input::fill(&mut text, h.text) {
-        return bad_input();
-    }
-    if !input::fill(&mut sheet, h.sheet) {
-        return bad_input();
-    }
-    run(h, &text, &sheet, &mut words);
+    let mut answer = [layout::UNTOUCHED; layout::ANSWER];
+    let number = tergyosul::tergyosul_read(text, sheet, &mut words[..count], &mut answer);
+    report::case(id, text, words, &answer, number);
     true
 }
 
-fn bad_input() -> bool {
+// Reads the text and the sheet of a case, and runs it; false where they are not there.
+fn run(id: u64, count: usize, text_size: usize, sheet_size: usize) -> bool {
+    let mut words = [layout::UNTOUCHED; WORDS];
+    let mut text = [0u8; BYTES];
+    let mut sheet = [0u8; BYTES];
+    if !input::fill(&mut text, text_size) {
+        return false;
+    }
+    if !input::fill(&mut sheet, sheet_size) {
+        return false;
+    }
+    call(
+        id,
+        text::part::part(&text, 0, text_size),
+        text::part::part(&sheet, 0, sheet_size),
+        &mut words,
+        count,
+    )
+}
+
+// What follows `case ` in a case; false where it is none.
+fn rest_of_case() -> bool {
+    let id = input::number(b' ');
+    let words = input::number(b' ');
+    let text = input::number(b' ');
+    let sheet = input::number(b'\n');
+    if id == input::NONE {
+        return false;
+    }
+    run(id, words as usize, text as usize, sheet as usize)
+}
+
+// One case; false at the end of the input, and where it is no case.
+fn one_case() -> bool {
+    let mut first = [0u8; 5];
+    if io::read_full(0, &mut first) == 0 {
+        return false;
+    }
+    if text::part::same(&first, b"case ") {
+        if rest_of_case() {
+            return true;
+        }
+    }
     io::write_all(1, b"bad input\n");
     false
-}
-
-// Runs a case on the parts of the buffers that its header names.
-fn run(h: input::Header, text: &[u8], sheet: &[u8], words: &mut [u32]) {
-    let rule = text::part::part(text, 0, h.text);
-    let table = text::part::part(sheet, 0, h.sheet);
-    if words.len() < h.words {
-        return;
-    }
-    call(h.id, rule, table, &mut words[..h.words]);
-}
-
-// Calls the reader and writes its answer.
-fn call(id: u64, text: &[u8], sheet: &[u8], words: &mut [u32]) {
-    let a = reader::read::read(text, sheet, words);
-    report::case(id, text, words, a);
 }
 
 // A proved loop has to end, and nothing says that the input does: it counts down from a number that no run uses up.

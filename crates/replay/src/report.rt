@@ -1,53 +1,29 @@
-// The answer to one case, as lines of output.
+// The answer to one case, as lines of output. Each is written with the line end before it.
+use crate::forms;
+use crate::layout;
 use crate::out;
 use crate::show;
-use sections::lists::Answer;
-use sections::lists::Conditions;
-use sections::lists::Triggers;
 
-// How many records the call wrote: up to the first whose kind is still untouched.
-fn written(words: &[u32]) -> usize {
-    let most = tokens::record::count(words);
-    let mut i = 0;
-    while i < most {
-        if tokens::record::kind(words, i) == 4294967295 {
-            return i;
-        }
-        i += 1;
-    }
-    i
-}
+// Bytes enough for the lines of a case: fewer than 50 for each of 1,024 tokens, fewer than 500 for each of eight entries.
+const ROOM: usize = 65536;
 
 fn token(out: &mut [u8], at: usize, words: &[u32], i: usize) -> usize {
-    let p = out::bytes(out, at, b"token");
-    let q = out::field(out, p, tokens::record::kind(words, i));
-    let r = out::field(out, q, tokens::record::number(words, i));
-    place(out, r, words, i)
-}
-
-fn place(out: &mut [u8], at: usize, words: &[u32], i: usize) -> usize {
-    let p = out::field(out, at, tokens::record::start(words, i));
-    let q = out::field(out, p, tokens::record::length(words, i));
-    let r = out::field(out, q, tokens::record::line(words, i));
-    let s = out::field(out, r, tokens::record::column(words, i));
-    out::byte(out, s, 10)
-}
-
-fn records(out: &mut [u8], at: usize, words: &[u32], count: usize) -> usize {
-    let mut p = at;
-    let mut i = 0;
-    while i < count {
-        p = token(out, p, words, i);
-        i += 1;
-    }
-    p
+    let record = [
+        tokens::record::kind(words, i),
+        tokens::record::number(words, i),
+        tokens::record::start(words, i),
+        tokens::record::length(words, i),
+        tokens::record::line(words, i),
+        tokens::record::column(words, i),
+    ];
+    show::line(out, at, b"", &record, 0, b"", b"\ntoken #0 #1 #2 #3 #4 #5")
 }
 
 // Whether the words behind so many records are untouched.
 fn untouched(words: &[u32], count: usize) -> bool {
     let mut i = 0;
     while i < words.len() {
-        if count <= i / 6 && words[i] != 4294967295 {
+        if count <= i / tokens::record::RECORD_SIZE && words[i] != layout::UNTOUCHED {
             return false;
         }
         i += 1;
@@ -55,78 +31,81 @@ fn untouched(words: &[u32], count: usize) -> bool {
     true
 }
 
+// The records that the call wrote, which end before the first whose kind is untouched; and whether the rest is untouched.
 fn buffer(out: &mut [u8], at: usize, words: &[u32]) -> usize {
-    let count = written(words);
-    let p = records(out, at, words, count);
-    if untouched(words, count) {
-        return out::bytes(out, p, b"buffer kept\n");
-    }
-    out::bytes(out, p, b"buffer changed\n")
-}
-
-fn triggers(out: &mut [u8], at: usize, text: &[u8], list: Triggers) -> usize {
+    let most = tokens::record::count(words);
     let mut p = at;
     let mut i = 0;
-    while i < 4 && i < list.count {
-        let row = list.rows[i];
-        let x = row.trigger;
-        p = show::trigger(out, p, text, x);
-        p = out::byte(out, p, 10);
+    while i < most {
+        if tokens::record::kind(words, i) == layout::UNTOUCHED {
+            break;
+        }
+        p = token(out, p, words, i);
         i += 1;
     }
-    p
-}
-
-fn conditions(out: &mut [u8], at: usize, text: &[u8], list: Conditions) -> usize {
-    let mut p = at;
-    let mut i = 0;
-    while i < 4 && i < list.count {
-        let row = list.rows[i];
-        let y = row.condition;
-        p = show::condition(out, p, text, y);
-        p = out::byte(out, p, 10);
-        i += 1;
+    if untouched(words, i) {
+        return out::bytes(out, p, b"\nbuffer kept");
     }
-    p
+    out::bytes(out, p, b"\nbuffer changed")
 }
 
-fn refused(out: &mut [u8], at: usize, a: Answer) -> usize {
-    let p = out::bytes(out, at, b"refused");
-    let q = out::field(out, p, a.number);
-    let r = out::field(out, q, a.line);
-    let s = out::field(out, r, a.column);
-    let t = out::field(out, s, a.detail);
-    out::byte(out, t, 10)
+// The lines of both lists.
+fn lists(out: &mut [u8], at: usize, text: &[u8], answer: &[u32], forms: &[u8]) -> usize {
+    let triggers = layout::word(answer, layout::TRIGGER_COUNT);
+    let p = show::rows(
+        out,
+        at,
+        text,
+        answer,
+        layout::TRIGGERS,
+        triggers,
+        forms,
+        b"\nT T0",
+    );
+    let conditions = layout::word(answer, layout::CONDITION_COUNT);
+    show::rows(
+        out,
+        p,
+        text,
+        answer,
+        layout::CONDITIONS,
+        conditions,
+        forms,
+        b"\nC C0",
+    )
 }
 
-fn accepted(out: &mut [u8], at: usize, text: &[u8], a: Answer) -> usize {
-    let p = out::bytes(out, at, b"accepted ");
-    let q = out::number(out, p, a.triggers.count as u64);
-    let r = out::byte(out, q, b' ');
-    let s = out::number(out, r, a.conditions.count as u64);
-    let t = out::byte(out, s, 10);
-    let u = triggers(out, t, text, a.triggers);
-    conditions(out, u, text, a.conditions)
+// The table stands alone here: it makes the check of what is beside it slow.
+fn entries(out: &mut [u8], at: usize, text: &[u8], answer: &[u32]) -> usize {
+    lists(out, at, text, answer, &forms::FORMS)
 }
 
-fn answer(out: &mut [u8], at: usize, text: &[u8], a: Answer) -> usize {
-    if a.number == 0 {
-        return accepted(out, at, text, a);
+// What was read, or the refusal.
+fn result(out: &mut [u8], at: usize, text: &[u8], answer: &[u32], number: u32) -> usize {
+    if number != 0 {
+        return show::line(out, at, text, answer, 0, b"", b"\nrefused #0 #1 #2 #3");
     }
-    refused(out, at, a)
+    let p = show::line(out, at, text, answer, 0, b"", b"\naccepted #4 #5");
+    entries(out, p, text, answer)
 }
 
-// Writes the lines of one case, gathered in a buffer that has room for them.
-fn gathered(out: &mut [u8], id: u64, text: &[u8], words: &[u32], a: Answer) {
-    let p = out::bytes(out, 0, b"case ");
-    let q = out::number(out, p, id);
-    let r = out::byte(out, q, 10);
-    let s = buffer(out, r, words);
-    let t = answer(out, s, text, a);
-    io::write_all(1, text::part::part(out, 0, t));
+fn lines(
+    out: &mut [u8],
+    id: u64,
+    text: &[u8],
+    words: &[u32],
+    answer: &[u32],
+    number: u32,
+) -> usize {
+    let p = out::number(out, 0, b"case ", id);
+    let q = buffer(out, p, words);
+    let r = result(out, q, text, answer, number);
+    out::bytes(out, r, b"\n")
 }
 
-pub fn case(id: u64, text: &[u8], words: &[u32], a: Answer) {
-    let mut out = [0u8; 262144];
-    gathered(&mut out, id, text, words, a);
+// Writes the lines of one case at once.
+pub fn case(id: u64, text: &[u8], words: &[u32], answer: &[u32], number: u32) {
+    let mut out = [0u8; ROOM];
+    let end = lines(&mut out, id, text, words, answer, number);
+    io::write_all(1, text::part::part(&out, 0, end));
 }

@@ -1,7 +1,7 @@
 // `rules check RULES SHEET`: both lists in plain words, or one diagnostic.
 use crate::diagnose;
 use crate::files;
-use crate::flat;
+use crate::layout;
 use crate::out;
 use crate::reading;
 use crate::rows;
@@ -10,9 +10,9 @@ use crate::say;
 // Is a row in use? Rows 1 to 4 are for triggers, 5 to 8 for conditions.
 fn is_used(answer: &[u32], row: u32) -> bool {
     if row < 5 {
-        return row <= flat::triggers(answer);
+        return row <= layout::triggers(answer);
     }
-    row - 4 <= flat::conditions(answer)
+    row - 4 <= layout::conditions(answer)
 }
 
 // The line of a row; nothing where the row is not in use.

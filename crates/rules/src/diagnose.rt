@@ -2,8 +2,8 @@
 use crate::expected;
 use crate::fault;
 use crate::fault::Fault;
-use crate::flat;
 use crate::help;
+use crate::layout;
 use crate::out;
 use crate::reading;
 use crate::say;
@@ -16,7 +16,7 @@ use crate::title;
 fn token_count(text: &[u8], words: &mut [u32]) -> usize {
     let mut answer = [0u32; 4];
     if reading::lex(text, words, &mut answer) == 0 {
-        return flat::detail(&answer) as usize;
+        return layout::detail(&answer) as usize;
     }
     0
 }
@@ -77,7 +77,7 @@ fn of_text(text: &[u8], sheet: &[u8], words: &[u32], name: &[u8], f: Fault) {
 
 // The last line of the output.
 fn verdict(answer: &[u32]) {
-    if flat::line(answer) == 0 {
+    if layout::line(answer) == 0 {
         say::numbers(answer, b"refused: %n0\n");
         return;
     }
@@ -93,8 +93,8 @@ pub fn show(
     text_name: &[u8],
     sheet_name: &[u8],
 ) {
-    if flat::number(answer) == 3 {
-        sheet_fault::show(sheet, sheet_name, flat::line(answer));
+    if layout::number(answer) == 3 {
+        sheet_fault::show(sheet, sheet_name, layout::line(answer));
         verdict(answer);
         return;
     }

@@ -1,8 +1,8 @@
 // What may stand at a place of a rule. The reader itself is asked: the text before the place with a candidate behind it is read anew,
 // and the candidate belongs there unless it is refused itself.
 use crate::fault::Fault;
-use crate::flat;
 use crate::items;
+use crate::layout;
 use crate::marks;
 use crate::near;
 use crate::out;
@@ -14,7 +14,7 @@ use crate::trial;
 // Is a candidate, which begins the line `line`, taken by the reader? It is if it is not refused itself, or only for its value (22, 25, 35, 36).
 // Refusals below 20 say nothing of it. A 30 says that the candidate needs one instance where there is a group; only `)` just meets it.
 fn is_taken(answer: &[u32], line: u32, candidate: &[u8]) -> bool {
-    let number = flat::number(answer);
+    let number = layout::number(answer);
     if number == 0 {
         return true;
     }
@@ -24,10 +24,10 @@ fn is_taken(answer: &[u32], line: u32, candidate: &[u8]) -> bool {
     if number == 30 {
         return text::part::same(candidate, b")");
     }
-    if flat::line(answer) != line {
+    if layout::line(answer) != line {
         return true;
     }
-    if candidate.len() < flat::column(answer) as usize {
+    if candidate.len() < layout::column(answer) as usize {
         return true;
     }
     is_value(number)

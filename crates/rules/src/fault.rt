@@ -1,5 +1,5 @@
 // A refusal of a rule text with what is known of its place.
-use crate::flat;
+use crate::layout;
 use crate::out;
 use crate::split;
 
@@ -43,13 +43,13 @@ fn token_at(words: &[u32], count: usize, line: u32, column: u32) -> usize {
 
 // What an answer refuses; count is 0 unless the text was cut into tokens.
 pub fn of(text: &[u8], words: &[u32], answer: &[u32], count: usize) -> Fault {
-    let line = flat::line(answer);
-    let column = flat::column(answer);
+    let line = layout::line(answer);
+    let column = layout::column(answer);
     Fault {
-        number: flat::number(answer),
+        number: layout::number(answer),
         line,
         column,
-        detail: flat::detail(answer),
+        detail: layout::detail(answer),
         at: offset(text, line, column),
         token: token_at(words, count, line, column),
         count,

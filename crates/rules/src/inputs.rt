@@ -1,5 +1,5 @@
 // Inputs and their events in plain words. The words of a part stand in a row of the answer from word k on.
-use crate::flat;
+use crate::layout;
 use crate::out;
 use crate::parts;
 
@@ -8,11 +8,11 @@ pub fn input(sheet: &[u8], answer: &[u32], row: usize, k: usize) {
     if 9 < k {
         return;
     }
-    let adapter = flat::get(answer, row, k);
-    let number = flat::get(answer, row, k + 1);
+    let adapter = layout::get(answer, row, k);
+    let number = layout::get(answer, row, k + 1);
     out::bytes(b"input device ");
     out::small(number);
-    instance(adapter, flat::get(answer, row, k + 2));
+    instance(adapter, layout::get(answer, row, k + 2));
     parts::name_on_sheet(sheet, 4, adapter, number);
 }
 
@@ -28,15 +28,15 @@ pub fn selector(sheet: &[u8], answer: &[u32], row: usize, k: usize) {
     if 8 < k {
         return;
     }
-    if flat::get(answer, row, k) == 1 {
+    if layout::get(answer, row, k) == 1 {
         input(sheet, answer, row, k + 1);
         return;
     }
     out::bytes(b"instance group ");
-    out::small(flat::get(answer, row, k + 2));
-    input_type(flat::get(answer, row, k + 3));
+    out::small(layout::get(answer, row, k + 2));
+    input_type(layout::get(answer, row, k + 3));
     out::bytes(b" on adapter ");
-    out::small(flat::get(answer, row, k + 1));
+    out::small(layout::get(answer, row, k + 1));
 }
 
 // The type of an instance group, if one is given: its number, and its word if it has one.
@@ -62,10 +62,10 @@ pub fn event(answer: &[u32], row: usize, k: usize) {
     if 9 < k {
         return;
     }
-    let code = flat::get(answer, row, k);
+    let code = layout::get(answer, row, k);
     if code == 13 {
         out::bytes(b"event with data ");
-        out::small(flat::get(answer, row, k + 1));
+        out::small(layout::get(answer, row, k + 1));
         return;
     }
     out::word(

@@ -1,7 +1,7 @@
 // `rules tokens RULES`: one line for each token, or one diagnostic.
 use crate::diagnose;
 use crate::files;
-use crate::flat;
+use crate::layout;
 use crate::out;
 use crate::reading;
 use crate::say;
@@ -38,7 +38,7 @@ fn listed(text: &[u8], words: &[u32], count: usize) {
 }
 
 fn accepted(text: &[u8], words: &[u32], answer: &[u32]) {
-    listed(text, words, flat::detail(answer) as usize);
+    listed(text, words, layout::detail(answer) as usize);
     say::numbers(answer, b"accepted: %n3 token%P3\n");
 }
 
@@ -53,7 +53,7 @@ fn answered(text: &[u8], name: &[u8]) {
     let mut words = [0u32; 6144];
     let mut answer = [0u32; 108];
     reading::read(text, sheet, &mut words, &mut answer);
-    if is_uncut(flat::number(&answer)) {
+    if is_uncut(layout::number(&answer)) {
         diagnose::show(text, sheet, &mut words, &answer, name, name);
         return;
     }

@@ -6,14 +6,14 @@ use crate::marks;
 use crate::out;
 use crate::reference;
 use crate::say;
-use crate::sheet;
-use crate::sheet::Question;
+use crate::sheets;
+use crate::sheets::Question;
 use crate::split;
 
 // The adapters that the sheet lists.
 pub fn adapters(sheet: &[u8]) {
     let mut marks = [0u8; 256];
-    sheet::mark_adapters(sheet, &mut marks, true);
+    sheets::mark_adapters(sheet, &mut marks, true);
     listed(&marks);
 }
 
@@ -40,7 +40,7 @@ fn is_other(sheet: &[u8], name: &[u8], kind: u32, other: u32) -> bool {
     if kind == other {
         return false;
     }
-    sheet::has(sheet, asked(other, 256, 1), name)
+    sheets::has(sheet, asked(other, 256, 1), name)
 }
 
 // The first other kind of which a row has the name; 0 where there is none.
@@ -88,7 +88,7 @@ fn unknown(sheet: &[u8], name: &[u8], kind: u32) {
         of_other_kind(other);
         return;
     }
-    nearly(sheet::name(sheet, asked(kind, 256, 2), name));
+    nearly(sheets::name(sheet, asked(kind, 256, 2), name));
 }
 
 // The adapters in a set, and that they have something.
@@ -102,7 +102,7 @@ fn who_has(marks: &[u8]) {
 
 // If an adapter in a set is not listed, so that it cannot be written yet: what to add to the sheet. The listed ones leave the set.
 fn to_list(sheet: &[u8], marks: &mut [u8]) {
-    sheet::mark_adapters(sheet, marks, false);
+    sheets::mark_adapters(sheet, marks, false);
     let k = marks::first(marks);
     if 255 < k {
         return;
@@ -124,7 +124,7 @@ fn to_list_one(sheet: &[u8], adapter: u32) {
 // 32 and 34: the adapters whose rows have the name.
 fn elsewhere(sheet: &[u8], name: &[u8], kind: u32) {
     let mut marks = [0u8; 256];
-    sheet::mark_rows(sheet, asked(kind, 256, 1), name, false, &mut marks);
+    sheets::mark_rows(sheet, asked(kind, 256, 1), name, false, &mut marks);
     who_has(&marks);
     let w = Written {
         kind,
@@ -141,7 +141,7 @@ fn one_adapter(sheet: &[u8], name: &[u8], kind: u32, scope: u32) -> u32 {
         return scope;
     }
     let mut marks = [0u8; 256];
-    sheet::mark_rows(sheet, asked(kind, 256, 1), name, false, &mut marks);
+    sheets::mark_rows(sheet, asked(kind, 256, 1), name, false, &mut marks);
     text::place::held(marks::first(&marks))
 }
 
@@ -150,7 +150,8 @@ fn needed(sheet: &[u8], kind: u32, scope: u32, adapter: u32) -> u32 {
     if kind == 4 && scope != 256 {
         return 256;
     }
-    if references::sheet::primary(sheet) == adapter {
+    let own = sheet::rows::settings(sheet);
+    if own.primary == adapter {
         return 256;
     }
     adapter
@@ -171,7 +172,7 @@ fn numbers(sheet: &[u8], marks: &[u8], kind: u32, adapter: u32) {
 fn several(sheet: &[u8], name: &[u8], kind: u32, scope: u32) {
     let mut marks = [0u8; 256];
     let adapter = one_adapter(sheet, name, kind, scope);
-    sheet::mark_rows(sheet, asked(kind, adapter, 1), name, true, &mut marks);
+    sheets::mark_rows(sheet, asked(kind, adapter, 1), name, true, &mut marks);
     say::set(
         &marks,
         adapter,

@@ -1,8 +1,8 @@
 // The parts that triggers and conditions share, in plain words. The words of a part stand in a row of the answer from word k on.
-use crate::flat;
+use crate::layout;
 use crate::out;
-use crate::sheet;
-use crate::sheet::Question;
+use crate::sheets;
+use crate::sheets::Question;
 
 // The word of a kind: 1 lamp, 2 group, 3 device, 4 input device.
 fn kind_word(kind: u32) {
@@ -21,7 +21,7 @@ pub fn name_on_sheet(sheet: &[u8], kind: u32, adapter: u32, number: u32) {
         number,
         name: 0,
     };
-    let name = sheet::name(sheet, q, b"");
+    let name = sheets::name(sheet, q, b"");
     if name.len() == 0 {
         return;
     }
@@ -35,8 +35,8 @@ pub fn reference(sheet: &[u8], answer: &[u32], row: usize, k: usize, kind: u32) 
     if 11 < k {
         return;
     }
-    let adapter = flat::get(answer, row, k);
-    let number = flat::get(answer, row, k + 1);
+    let adapter = layout::get(answer, row, k);
+    let number = layout::get(answer, row, k + 1);
     kind_word(kind);
     out::byte(b' ');
     out::small(number);
@@ -50,8 +50,8 @@ pub fn name(text: &[u8], answer: &[u32], row: usize, k: usize) {
     if 11 < k {
         return;
     }
-    let start = flat::get(answer, row, k) as usize;
-    let length = flat::get(answer, row, k + 1) as usize;
+    let start = layout::get(answer, row, k) as usize;
+    let length = layout::get(answer, row, k + 1) as usize;
     out::byte(b'"');
     out::shown(text::part::part(text, start, start + length));
     out::byte(b'"');
@@ -62,10 +62,10 @@ pub fn target(sheet: &[u8], answer: &[u32], row: usize, k: usize) {
     if 11 < k {
         return;
     }
-    let kind = flat::get(answer, row, k);
+    let kind = layout::get(answer, row, k);
     if kind == 3 {
         out::bytes(b"all lamps of adapter ");
-        out::small(flat::get(answer, row, k + 1));
+        out::small(layout::get(answer, row, k + 1));
         return;
     }
     reference(sheet, answer, row, k + 1, kind);
@@ -125,8 +125,8 @@ pub fn solar(answer: &[u32], row: usize, k: usize) {
     if 10 < k {
         return;
     }
-    out::word(b"sunrise sunset", flat::get(answer, row, k));
-    offset(flat::get(answer, row, k + 1));
+    out::word(b"sunrise sunset", layout::get(answer, row, k));
+    offset(layout::get(answer, row, k + 1));
 }
 
 // BOUND: a time of day, or a solar event with an offset.
@@ -134,8 +134,8 @@ pub fn bound(answer: &[u32], row: usize, k: usize) {
     if 10 < k {
         return;
     }
-    if flat::get(answer, row, k) == 1 {
-        clock(flat::get(answer, row, k + 1));
+    if layout::get(answer, row, k) == 1 {
+        clock(layout::get(answer, row, k + 1));
         return;
     }
     solar(answer, row, k + 1);

@@ -1,6 +1,6 @@
 // The range of a number that is out of it. The reader itself is asked: the text is read anew with another number in its place.
 use crate::fault::Fault;
-use crate::flat;
+use crate::layout;
 use crate::out;
 use crate::reading;
 use crate::split;
@@ -31,9 +31,9 @@ fn is_in_range(text: &[u8], sheet: &[u8], f: Fault, behind: usize, number: &[u8]
 
 // Is the number, which stands on a line, taken?
 fn is_taken(answer: &[u32], line: u32) -> bool {
-    let refused = flat::number(answer);
+    let refused = layout::number(answer);
     if refused == 22 {
-        return flat::line(answer) != line;
+        return layout::line(answer) != line;
     }
     refused == 0 || 19 < refused
 }

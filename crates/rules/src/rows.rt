@@ -1,5 +1,5 @@
 // Triggers and conditions in plain words. How a sentence is read is said in say.rt.
-use crate::flat;
+use crate::layout;
 use crate::out;
 use crate::say;
 use crate::split;
@@ -27,7 +27,7 @@ fn trigger(text: &[u8], sheet: &[u8], answer: &[u32], row: usize) {
 18 when the controller becomes active
 19 when rule %q1 fails
 20 when the http trigger comes";
-    let sentence = split::numbered(table, flat::get(answer, row, 0));
+    let sentence = split::numbered(table, layout::get(answer, row, 0));
     say::show(text, sheet, answer, row, sentence);
 }
 
@@ -49,7 +49,7 @@ fn condition(text: &[u8], sheet: &[u8], answer: &[u32], row: usize) {
 13 timer %q1 is running
 14 the controller is active
 15 var %q1 %C3 %v4";
-    let sentence = split::numbered(table, flat::get(answer, row, 0));
+    let sentence = split::numbered(table, layout::get(answer, row, 0));
     say::show(text, sheet, answer, row, sentence);
 }
 

@@ -1,8 +1,8 @@
 // Sentences with parts to fill in. A part is `%`, a letter and a digit. The digit is the index of the word in a row of numbers at which the part begins;
 // the letter says what it is: `part`, `of_row` and `choice` have the letters.
-use crate::flat;
 use crate::inputs;
 use crate::items;
+use crate::layout;
 use crate::out;
 use crate::parts;
 use crate::split;
@@ -62,7 +62,7 @@ fn kinds(kind: u32) {
 
 // A part that is said by the row alone.
 fn of_row(answer: &[u32], row: usize, letter: &[u8], k: usize) {
-    let n = flat::get(answer, row, k);
+    let n = layout::get(answer, row, k);
     let c = byte_at(letter, 0);
     match c {
         b'n' => out::small(n),

@@ -3,7 +3,7 @@ use crate::out;
 use crate::say;
 use crate::source;
 use crate::split;
-use references::line::Line;
+use sheet::line::Line;
 
 fn begins(l: &[u8], word: &[u8]) -> bool {
     text::part::same(text::part::part(l, 0, word.len()), word)
@@ -21,7 +21,7 @@ fn ends_with_return(l: &[u8]) -> bool {
 }
 
 fn is_primary(l: &[u8]) -> bool {
-    let said = references::line::line_of(l);
+    let said = sheet::line::line_of(l);
     match said {
         Line::Primary(_) => true,
         _ => false,

@@ -1,6 +1,6 @@
 // Values in conditions, in plain words: numbers, and readings with perhaps a number added.
-use crate::flat;
 use crate::inputs;
+use crate::layout;
 use crate::out;
 use crate::parts;
 
@@ -80,7 +80,7 @@ fn reading(text: &[u8], sheet: &[u8], answer: &[u32], row: usize, k: usize) {
     if 11 < k {
         return;
     }
-    let code = flat::get(answer, row, k);
+    let code = layout::get(answer, row, k);
     let kind = kind_of(code);
     if kind == 5 {
         out::bytes(b"var ");
@@ -96,9 +96,9 @@ pub fn value(text: &[u8], sheet: &[u8], answer: &[u32], row: usize, k: usize) {
     if 5 < k {
         return;
     }
-    let kind = flat::get(answer, row, k);
-    let low = flat::get(answer, row, k + 5);
-    let high = flat::get(answer, row, k + 6);
+    let kind = layout::get(answer, row, k);
+    let low = layout::get(answer, row, k + 5);
+    let high = layout::get(answer, row, k + 6);
     if kind == 1 {
         signed(low, high);
         return;

@@ -2,60 +2,29 @@
 -- it stands for (is-…), its two forms, an answer that is passed on, and the next step after it.
 use Prim.Native.Nat.{ℕ}
 use mathlib.Core.Path.{_≡_, _∙_, ap, sym}
-use mathlib.Core.Bool.{Bool}
+use mathlib.Core.Bool.{false}
+use lib.Dec.{eqb}
+use Rattle.text.specs.Choice.{pick}
 use Rattle.tokens.specs.Result.{Res, ok, no, bind, refuse}
 use Rattle.tokens.specs.declared.cursor.Cursor.{Cursor}
 use Rattle.tokens.specs.declared.cursor.Refusal.{Refusal}
-use Rattle.sections.specs.Words.{toPair}
-use Rattle.sections.specs.Timeval.{toBound}
-use Rattle.sections.specs.Expr.{toReading, toValue}
-use Rattle.sections.specs.Trigger.{toEvent, toTrigger}
-use Rattle.sections.specs.Condition.{toComparison, toOperand, toCondition}
-use Rattle.sections.specs.declared.words.PairAnswer.{PairAnswer}
-use Rattle.sections.specs.declared.timeval.TimeBound.{TimeBound}
+use Rattle.sections.specs.Answers.{toBound, toReading, toValue, toEvent, toTrigger, toComparison, toOperand, toCondition}
+use Rattle.model.specs.declared.TimeBound.{TimeBound}
 use Rattle.sections.specs.declared.timeval.BoundAnswer.{BoundAnswer}
-use Rattle.sections.specs.declared.expr.Reading.{Reading}
+use Rattle.model.specs.declared.Reading.{Reading}
 use Rattle.sections.specs.declared.expr.ReadingAnswer.{ReadingAnswer}
-use Rattle.sections.specs.declared.expr.Value.{Value}
+use Rattle.model.specs.declared.Value.{Value}
 use Rattle.sections.specs.declared.expr.ValueAnswer.{ValueAnswer}
-use Rattle.sections.specs.declared.trigger.Event.{Event}
+use Rattle.model.specs.declared.Event.{Event}
 use Rattle.sections.specs.declared.trigger.EventAnswer.{EventAnswer}
-use Rattle.sections.specs.declared.trigger.Trigger.{Trigger}
+use Rattle.model.specs.declared.Trigger.{Trigger}
 use Rattle.sections.specs.declared.trigger.TriggerAnswer.{TriggerAnswer}
-use Rattle.sections.specs.declared.condition.Comparison.{Comparison}
+use Rattle.model.specs.declared.Comparison.{Comparison}
 use Rattle.sections.specs.declared.condition.ComparisonAnswer.{ComparisonAnswer}
-use Rattle.sections.specs.declared.condition.Operand.{Operand}
+use Rattle.model.specs.declared.Operand.{Operand}
 use Rattle.sections.specs.declared.condition.OperandAnswer.{OperandAnswer}
-use Rattle.sections.specs.declared.condition.Condition.{Condition}
+use Rattle.model.specs.declared.Condition.{Condition}
 use Rattle.sections.specs.declared.condition.ConditionAnswer.{ConditionAnswer}
-
-abbrev pub fromPair : PairAnswer → Res Bool
-fromPair (PairAnswer.Got v c) = ok v (c .index)
-fromPair (PairAnswer.No r) = no r
-
-pub is-pair : (x : Res Bool) {a b : PairAnswer} → a ≡ toPair x → a ≡ b → x ≡ fromPair b
-unfolding toPair
-is-pair (ok v i) e m = ap fromPair (sym e ∙ m)
-is-pair (no r) e m = ap fromPair (sym e ∙ m)
-
-pub pair-ok : (x : Res Bool) {v : Bool} {c : Cursor} → ok v (c .index) ≡ x → PairAnswer.Got v c ≡ toPair x
-unfolding toPair
-pair-ok x e = rw (sym e)
-
-pub pair-no : (x : Res Bool) {r : Refusal} → no r ≡ x → PairAnswer.No r ≡ toPair x
-unfolding toPair
-pair-no x e = rw (sym e)
-
-pub pair-same : {a : PairAnswer} {z : Res Bool} (x : Res Bool) → a ≡ toPair z → z ≡ x → a ≡ toPair x
-pair-same x e h = e ∙ ap toPair h
-
-pub then-pair : {B : Type 0} {a : PairAnswer} (x : Res Bool) (f : Bool → ℕ → Res B) {v : Bool} {c : Cursor} {y : Res B} →
-    a ≡ toPair x → a ≡ PairAnswer.Got v c → y ≡ f v (c .index) → y ≡ bind x f
-then-pair x f e m h = rw (is-pair x e m) h
-
-pub stop-pair : {B : Type 0} {a : PairAnswer} (x : Res Bool) (f : Bool → ℕ → Res B) {r : Refusal} →
-    a ≡ toPair x → a ≡ PairAnswer.No r → no r ≡ bind x f
-stop-pair x f e m = rw (is-pair x e m)
 
 abbrev pub fromBound : BoundAnswer → Res TimeBound
 fromBound (BoundAnswer.Got v c) = ok v (c .index)
@@ -280,6 +249,10 @@ then-condition x f e m h = rw (is-condition x e m) h
 pub stop-condition : {B : Type 0} {a : ConditionAnswer} (x : Res Condition) (f : Condition → ℕ → Res B) {r : Refusal} →
     a ≡ toCondition x → a ≡ ConditionAnswer.No r → no r ≡ bind x f
 stop-condition x f e m = rw (is-condition x e m)
+
+-- one arm of a match on a number m, which is k: a test for another number fails
+pub eq-other : {A : Type 0} (m n : ℕ) (a b : A) {k : ℕ} {x : A} → m ≡ k → eqb k n ≡ false → x ≡ b → x ≡ pick (eqb m n) a b
+eq-other m n a b d f e = rw (d, f) e
 
 -- a refusal that a function made
 pub refused : {A : Type 0} (number i : ℕ) {r : Refusal} → r ≡ record { number = number; token = i; detail = 0 } →

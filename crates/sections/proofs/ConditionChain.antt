@@ -6,8 +6,7 @@ use mathlib.Core.List.{List}
 use lib.Dec.{eqb}
 use borrow.Author.Tests.{eq-eqb, eqb-true}
 use Rattle.text.specs.Choice.{pick}
-use Rattle.text.specs.Part.{sameBytes}
-use Rattle.text.proofs.Tests.{told-yes, told-no, eq-told-yes, eq-told-no}
+use Rattle.text.proofs.Tests.{eq-yes, eq-no, told-yes, told-no, eq-told-yes, eq-told-no}
 use Rattle.tokens.specs.Record.{kindAt}
 use Rattle.tokens.specs.Result.{ok, no}
 use Rattle.tokens.specs.Cursor.{Tok, tokens, isKind, accepted}
@@ -15,36 +14,31 @@ use Rattle.tokens.specs.declared.cursor.Cursor.{Cursor}
 use Rattle.tokens.specs.declared.cursor.Refusal.{Refusal}
 use Rattle.tokens.specs.declared.cursor.Accepted.{Accepted}
 use Rattle.tokens.proofs.Chain.{then-taken, stop-taken, perhaps-yes, perhaps-no}
-use Rattle.references.specs.Sheet.{Names}
-use Rattle.references.specs.declared.refs.Ref.{Ref}
-use Rattle.references.specs.declared.refs.LightTarget.{LightTarget}
-use Rattle.references.specs.declared.args.InputRef.{InputRef}
-use Rattle.references.proofs.RefChain.{then-named, stop-named, then-ref, stop-ref, then-target, stop-target, longer-yes, longer-no}
+use Rattle.sheet.specs.View.{View}
+use Rattle.references.proofs.RefChain.{then-index, stop-index, then-ref, stop-ref, then-target, stop-target, longer-yes, longer-no}
 use Rattle.references.proofs.ArgChain.{then-input, stop-input}
-use Rattle.sections.specs.Condition.{comparisonBy, comparisonAt, olderThan, varCompared, conditionBy}
-use Rattle.sections.specs.declared.name.Name.{Name}
-use Rattle.sections.specs.declared.expr.Value.{Value}
-use Rattle.sections.specs.declared.trigger.Occupancy.{Occupancy}
-use Rattle.sections.specs.declared.trigger.Crossing.{Crossing}
-use Rattle.sections.specs.declared.trigger.Power.{Power}
-use Rattle.sections.specs.declared.trigger.Aggregate.{Aggregate}
-use Rattle.sections.specs.declared.condition.Sun.{Sun}
-use Rattle.sections.specs.declared.condition.Hcl.{Hcl}
-use Rattle.sections.specs.declared.condition.Operand.{Operand}
-use Rattle.sections.specs.declared.condition.Condition.the-variants.{SunIs, LampIs, GroupState, InputOccupancy, InputLight, HclState, RuleEnabled, TimerRunning}
-use Rattle.sections.proofs.AnswerChain.{then-pair, stop-pair, then-bound, stop-bound, then-value, stop-value, comparison-ok, comparison-no, then-comparison, stop-comparison, operand-ok, operand-no, operand-same, then-operand, stop-operand, condition-ok, condition-no, condition-same, refused}
+use Rattle.model.specs.declared.Name.{Name}
+use Rattle.model.specs.declared.Ref.{Ref}
+use Rattle.model.specs.declared.InputRef.{InputRef}
+use Rattle.model.specs.declared.LightTarget.{LightTarget}
+use Rattle.model.specs.declared.Value.{Value}
+use Rattle.model.specs.declared.Occupancy.{Occupancy}
+use Rattle.model.specs.declared.Crossing.{Crossing}
+use Rattle.model.specs.declared.Power.{Power}
+use Rattle.model.specs.declared.Aggregate.{Aggregate}
+use Rattle.model.specs.declared.Sun.{Sun}
+use Rattle.model.specs.declared.Hcl.{Hcl}
+use Rattle.model.specs.declared.LampProperty.{LampProperty}
+use Rattle.model.specs.declared.Comparison.{Comparison}
+use Rattle.model.specs.declared.Operand.{Operand}
+use Rattle.model.specs.declared.Condition.the-variants.{SunIs, LampIs, LampCompare, GroupState, InputOccupancy, InputLight, HclState, RuleEnabled, LastFiredOlderThan, TimerRunning}
+use Rattle.language.specs.Condition.{comparisonBy, comparisonAt, varCompared}
+use Rattle.sections.proofs.AnswerChain.{then-bound, stop-bound, then-value, stop-value, comparison-ok, comparison-no, then-comparison, stop-comparison, operand-ok, operand-no, operand-same, then-operand, stop-operand, condition-ok, condition-no, condition-same, eq-other, refused}
 
 -- a step by a part p, which the code took by the same part q
-pub older-seen : (t : ℕ → Tok) (p : Name) (j : ℕ) {q : Name} → q ≡ p → olderThan t q j ≡ olderThan t p j
-older-seen t p j e = rw e
-
-pub var-seen : (t : ℕ → Tok) (names : Names) (range : ℕ → Name) (fuel : ℕ) (p : Name) (j : ℕ) {q : Name} → q ≡ p →
-    varCompared t names range fuel q j ≡ varCompared t names range fuel p j
-var-seen t names range fuel p j e = rw e
-
-pub condition-seen : (t : ℕ → Tok) (names : Names) (range : ℕ → Name) (fuel i j : ℕ) (p : List ℕ) {q : List ℕ} → q ≡ p →
-    conditionBy t names range fuel i j q ≡ conditionBy t names range fuel i j p
-condition-seen t names range fuel i j p e = rw e
+pub var-seen : (t : ℕ → Tok) (view : View) (range : ℕ → Name) (fuel : ℕ) (p : Name) (j : ℕ) {q : Name} → q ≡ p →
+    varCompared t view range fuel q j ≡ varCompared t view range fuel p j
+var-seen t view range fuel p j e = rw e
 
 -- a condition with a part that a function answered
 pub timer-made : (n : Name) (j : ℕ) {x : Name} → x ≡ n → ok (TimerRunning x) j ≡ ok (TimerRunning n) j
@@ -52,6 +46,13 @@ timer-made n j e = rw e
 
 pub rule-made : (n : Name) (j : ℕ) {x : Name} → x ≡ n → ok (RuleEnabled x) j ≡ ok (RuleEnabled n) j
 rule-made n j e = rw e
+
+pub fired-made : (n : Name) (ms j : ℕ) {x : Name} → x ≡ n → ok (LastFiredOlderThan x ms) j ≡ ok (LastFiredOlderThan n ms) j
+fired-made n ms j e = rw e
+
+pub compare-made : (r : Ref) (p : LampProperty) (c : Comparison) (v : Value) (j : ℕ) {x : LampProperty} → x ≡ p →
+    ok (LampCompare r x c v) j ≡ ok (LampCompare r p c v) j
+compare-made r p c v j e = rw e
 
 pub sun-made : (s : Sun) (j : ℕ) {x : Sun} → x ≡ s → ok (SunIs x) j ≡ ok (SunIs s) j
 sun-made s j e = rw e
@@ -73,15 +74,6 @@ light-made r d v j e = rw e
 
 pub text-made : (n : Name) (j : ℕ) {x : Name} → x ≡ n → ok (Operand.Text x) j ≡ ok (Operand.Text n) j
 text-made n j e = rw e
-
--- a test of the bytes p, which the code made of the same bytes q
-pub same-yes : {A : Type 0} {s : Bool} {q : List ℕ} (p word : List ℕ) (a b : A) {x : A} →
-    s ≡ sameBytes q word → q ≡ p → s ≡ true → x ≡ a → x ≡ pick (sameBytes p word) a b
-same-yes p word a b d e h = told-yes (sameBytes p word) a b (d ∙ ap (λ (l : List ℕ). sameBytes l word) e) h
-
-pub same-no : {A : Type 0} {s : Bool} {q : List ℕ} (p word : List ℕ) (a b : A) {x : A} →
-    s ≡ sameBytes q word → q ≡ p → s ≡ false → x ≡ b → x ≡ pick (sameBytes p word) a b
-same-no p word a b d e h = told-no (sameBytes p word) a b (d ∙ ap (λ (l : List ℕ). sameBytes l word) e) h
 
 -- the cursor behind a token that was there stands one further
 abbrev further : ℕ → Accepted → ℕ
@@ -132,16 +124,15 @@ pub ruleset no-comparisons = (comparison-no, no-comparison)
 pub ruleset phrases = (
   then-taken,
   stop-taken,
-  then-named,
-  stop-named,
+  then-index,
+  stop-index,
   then-ref,
   stop-ref,
   condition-ok,
   condition-no,
-  condition-same,
   timer-made,
   rule-made,
-  older-seen,
+  fired-made,
 )
 
 -- time bounds
@@ -153,8 +144,6 @@ pub ruleset states = (
   stop-taken,
   perhaps-yes,
   perhaps-no,
-  then-pair,
-  stop-pair,
   then-ref,
   stop-ref,
   then-target,
@@ -176,8 +165,8 @@ pub ruleset states = (
 
 -- what is compared with a value
 pub ruleset compared = (
-  then-named,
-  stop-named,
+  then-index,
+  stop-index,
   then-comparison,
   stop-comparison,
   then-value,
@@ -191,7 +180,7 @@ pub ruleset compared = (
 )
 
 -- a property that is judged last
-pub ruleset judged = (same-yes, same-no, condition-ok, condition-no, refused)
+pub ruleset judged = (then-taken, stop-taken, condition-ok, condition-no, compare-made)
 
 -- what a var is compared with
 pub ruleset operands = (
@@ -211,13 +200,4 @@ pub ruleset operands = (
 )
 
 -- a condition that is chosen by its first word
-pub ruleset choices = (
-  told-yes,
-  told-no,
-  then-taken,
-  stop-taken,
-  condition-no,
-  condition-same,
-  condition-seen,
-  refused,
-)
+pub ruleset choices = (eq-yes, eq-no, eq-other, then-taken, stop-taken, condition-no, condition-same, refused)

@@ -3,15 +3,3 @@ pub mod SignedLaws
 pub mod ValueChain
 pub mod TriggerChain
 pub mod ConditionChain
-pub mod WordLaws
-pub mod TimeLaws
-pub mod ExprLaws
-pub mod TriggerSound
-pub mod TriggerComplete
-pub mod ConditionSound
-pub mod ConditionComplete
-pub mod TextLaws
-pub mod RefusalLaws
-pub mod LexingLaws
-pub mod Theorem
-pub mod Pairs

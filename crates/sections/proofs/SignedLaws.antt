@@ -8,8 +8,8 @@ use mir.Syntax.{w32, w64}
 use mir.Val.{SFits, toZ, ofZ}
 use mir.Facts.{toZ-ofZ, toZ-pos}
 use borrow.Author.Needs.{needs}
-use Rattle.sections.specs.Words.{signed}
-use Rattle.sections.specs.Timeval.{mostOffset}
+use Rattle.language.specs.Words.{signed}
+use Rattle.language.specs.Timeval.{mostOffset}
 
 -- a number of 32 bits is held as it is, and its negation is what the machine computes
 as-pos : (n : ℕ) → n < 2 ^ 32 → toZ w64 n ≡ pos n

@@ -1,49 +1,44 @@
 -- Rules that follow the code of triggers: the definition stands on the right. One short set for each kind of function.
 use Prim.Native.Nat.{ℕ}
 use mathlib.Core.Path.{_≡_, ap}
-use mathlib.Core.List.{List}
 use lib.IntN.{ℤ}
 use mir.Syntax.{w32}
 use mir.Val.{SFits, toZ, ofZ}
 use mir.Facts.{toZ-ofZ}
-use Rattle.text.proofs.Tests.{lt-yes, lt-no, told-yes, told-no}
+use Rattle.text.proofs.Tests.{lt-yes, lt-no, eq-yes, eq-no, told-yes, told-no}
 use Rattle.tokens.specs.Result.{Res, ok}
 use Rattle.tokens.specs.Cursor.{Tok}
 use Rattle.tokens.proofs.Chain.{then-taken, stop-taken, perhaps-yes, perhaps-no}
-use Rattle.references.specs.Sheet.{Names}
-use Rattle.references.specs.declared.refs.Ref.{Ref}
-use Rattle.references.specs.declared.refs.LightTarget.{LightTarget}
-use Rattle.references.specs.declared.args.InputRef.{InputRef}
-use Rattle.references.proofs.RefChain.{then-named, stop-named, then-scope, stop-scope, then-ref, stop-ref, then-target, stop-target}
+use Rattle.references.proofs.RefChain.{then-index, stop-index, then-scope, stop-scope, then-ref, stop-ref, then-target, stop-target}
 use Rattle.references.proofs.ArgChain.{then-selector, stop-selector, then-input, stop-input}
-use Rattle.sections.specs.Trigger.{atBound, eventBy, propertyTrigger, triggerBy}
-use Rattle.sections.specs.declared.name.Name.{Name}
-use Rattle.sections.specs.declared.timeval.SolarEvent.{SolarEvent}
-use Rattle.sections.specs.declared.timeval.TimeBound.{TimeBound}
-use Rattle.sections.specs.declared.trigger.Occupancy.{Occupancy}
-use Rattle.sections.specs.declared.trigger.Crossing.{Crossing}
-use Rattle.sections.specs.declared.trigger.Power.{Power}
-use Rattle.sections.specs.declared.trigger.Aggregate.{Aggregate}
-use Rattle.sections.specs.declared.trigger.Override.{Override}
-use Rattle.sections.specs.declared.trigger.Trigger.{Trigger}
-use Rattle.sections.specs.declared.trigger.Trigger.the-variants.{InputOccupancy, InputLightCross, AtSolar, LampTurns, LampLevelCross, GroupBecomes, SceneRecalled, HclOverride, TimerFires, RuleFails}
-use Rattle.sections.proofs.AnswerChain.{then-pair, stop-pair, then-bound, stop-bound, event-ok, event-no, event-same, then-event, stop-event, trigger-ok, trigger-no, trigger-same, refused}
+use Rattle.model.specs.declared.Name.{Name}
+use Rattle.model.specs.declared.Ref.{Ref}
+use Rattle.model.specs.declared.InputRef.{InputRef}
+use Rattle.model.specs.declared.LightTarget.{LightTarget}
+use Rattle.model.specs.declared.SolarEvent.{SolarEvent}
+use Rattle.model.specs.declared.TimeBound.{TimeBound}
+use Rattle.model.specs.declared.Event.{Event}
+use Rattle.model.specs.declared.Occupancy.{Occupancy}
+use Rattle.model.specs.declared.Crossing.{Crossing}
+use Rattle.model.specs.declared.Power.{Power}
+use Rattle.model.specs.declared.Aggregate.{Aggregate}
+use Rattle.model.specs.declared.Online.{Online}
+use Rattle.model.specs.declared.Override.{Override}
+use Rattle.model.specs.declared.Trigger.{Trigger}
+use Rattle.model.specs.declared.Trigger.the-variants.{InputOccupancy, InputLightCross, AtSolar, LampTurns, LampLevelCross, GroupBecomes, SceneRecalled, DeviceOnline, HclOverride, TimerFires, RuleFails}
+use Rattle.language.specs.Trigger.{atBound}
+use Rattle.sections.proofs.AnswerChain.{then-bound, stop-bound, event-ok, event-no, event-same, then-event, stop-event, trigger-ok, trigger-no, trigger-same, eq-other, refused}
 
 -- a value x that the code takes apart: it was v, so the definition goes by v
 pub by-bound : (t : ℕ → Tok) (i : ℕ) (x : TimeBound) {v : TimeBound} {y : Res Trigger} → x ≡ v → y ≡ atBound t i v → y ≡ atBound t i x
 by-bound t i x was h = rw was h
 
--- a step by a word's bytes p, which the code took by the same bytes q
-pub event-seen : (i j : ℕ) (p : List ℕ) {q : List ℕ} → q ≡ p → eventBy i j q ≡ eventBy i j p
-event-seen i j p e = rw e
+-- an answer that a function gave
+pub made : (v : Trigger) (j : ℕ) {x : Trigger} → x ≡ v → ok x j ≡ ok v j
+made v j e = rw e
 
-pub property-seen : (t : ℕ → Tok) (r : InputRef) (i j : ℕ) (p : List ℕ) {q : List ℕ} → q ≡ p →
-    propertyTrigger t r i j q ≡ propertyTrigger t r i j p
-property-seen t r i j p e = rw e
-
-pub trigger-seen : (t : ℕ → Tok) (names : Names) (range : ℕ → Name) (fuel i j : ℕ) (p : List ℕ) {q : List ℕ} → q ≡ p →
-    triggerBy t names range fuel i j q ≡ triggerBy t names range fuel i j p
-trigger-seen t names range fuel i j p e = rw e
+pub event-made : (v : Event) (j : ℕ) {x : Event} → x ≡ v → ok x j ≡ ok v j
+event-made v j e = rw e
 
 -- a trigger with a part that a function answered
 pub timer-made : (n : Name) (j : ℕ) {x : Name} → x ≡ n → ok (TimerFires x) j ≡ ok (TimerFires n) j
@@ -54,6 +49,9 @@ rule-made n j e = rw e
 
 pub scene-made : (a n j : ℕ) {x : ℕ} → x ≡ a → ok (SceneRecalled x n) j ≡ ok (SceneRecalled a n) j
 scene-made a n j e = rw e
+
+pub online-made : (r : Ref) (o : Online) (j : ℕ) {x : Online} → x ≡ o → ok (DeviceOnline r x) j ≡ ok (DeviceOnline r o) j
+online-made r o j e = rw e
 
 pub group-made : (r : Ref) (a : Aggregate) (j : ℕ) {x : Aggregate} → x ≡ a → ok (GroupBecomes r x) j ≡ ok (GroupBecomes r a) j
 group-made r a j e = rw e
@@ -77,20 +75,8 @@ occupancy-made r o j e = rw e
 pub solar-kept : (event : SolarEvent) (z : ℤ) (j : ℕ) → SFits w32 z → ok (AtSolar event (toZ w32 (ofZ w32 z))) j ≡ ok (AtSolar event z) j
 solar-kept event z j fits = ap (λ (x : ℤ). ok (AtSolar event x) j) (toZ-ofZ fits)
 
--- words in a fixed order, perhaps behind a name
-pub ruleset phrases = (
-  then-taken,
-  stop-taken,
-  perhaps-yes,
-  perhaps-no,
-  then-named,
-  stop-named,
-  trigger-ok,
-  trigger-no,
-  trigger-same,
-  timer-made,
-  rule-made,
-)
+-- a name or a choice alone
+pub ruleset phrases = (then-taken, stop-taken, then-index, stop-index, trigger-ok, trigger-no, made, timer-made, rule-made)
 
 -- times of day, solar events and periods
 pub ruleset times = (
@@ -112,17 +98,14 @@ pub ruleset times = (
 
 pub ruleset scenes = (then-taken, stop-taken, then-scope, stop-scope, trigger-ok, trigger-no, trigger-same, scene-made)
 
--- what follows a reference
-pub ruleset changes = (then-ref, stop-ref, trigger-no, trigger-same)
-
--- one word of a pair
-pub ruleset states = (
+-- what becomes of a lamp, a group, a device or an input
+pub ruleset changes = (
   then-taken,
   stop-taken,
   perhaps-yes,
   perhaps-no,
-  then-pair,
-  stop-pair,
+  then-ref,
+  stop-ref,
   then-target,
   stop-target,
   then-input,
@@ -130,6 +113,8 @@ pub ruleset states = (
   trigger-ok,
   trigger-no,
   trigger-same,
+  made,
+  online-made,
   group-made,
   override-made,
   turns-made,
@@ -138,21 +123,11 @@ pub ruleset states = (
   occupancy-made,
 )
 
-pub ruleset events = (
-  told-yes,
-  told-no,
-  then-taken,
-  stop-taken,
-  perhaps-yes,
-  perhaps-no,
-  event-ok,
-  event-no,
-  event-same,
-  event-seen,
-  refused,
-)
+pub ruleset events = (eq-yes, eq-no, then-taken, stop-taken, event-ok, event-no, event-same, event-made)
 
 pub ruleset inputs = (
+  eq-yes,
+  eq-no,
   then-taken,
   stop-taken,
   perhaps-yes,
@@ -166,9 +141,8 @@ pub ruleset inputs = (
   trigger-ok,
   trigger-no,
   trigger-same,
-  property-seen,
   refused,
 )
 
--- a trigger that is chosen by a word
-pub ruleset choices = (told-yes, told-no, then-taken, stop-taken, trigger-no, trigger-same, trigger-seen, refused)
+-- a trigger that is chosen by its first word
+pub ruleset choices = (eq-yes, eq-no, eq-other, then-taken, stop-taken, trigger-no, trigger-same, refused)

@@ -1,10 +1,1 @@
-pub mod Range
-pub mod Words
-pub mod Timeval
-pub mod Expr
-pub mod Trigger
-pub mod Condition
-pub mod Section
-pub mod Read
-pub mod Demand
-pub mod grammar
+pub mod Answers

@@ -1,86 +1,44 @@
 // Conditions, ported from condition.rs.
 use crate::expr;
-use crate::expr::Value;
 use crate::expr::ValueAnswer;
 use crate::name;
-use crate::name::Name;
 use crate::timeval;
 use crate::timeval::BoundAnswer;
-use crate::timeval::TimeBound;
 use crate::trigger;
-use crate::trigger::Aggregate;
-use crate::trigger::Crossing;
-use crate::trigger::Occupancy;
-use crate::trigger::Power;
 use crate::words;
-use crate::words::PairAnswer;
+use model::Comparison;
+use model::Condition;
+use model::Hcl;
+use model::InputRef;
+use model::LampProperty;
+use model::Name;
+use model::Operand;
+use model::Ref;
+use model::Sun;
+use model::TimeBound;
+use model::Value;
 use references::args;
 use references::args::InputAnswer;
-use references::args::InputRef;
 use references::refs;
-use references::refs::LightTarget;
-use references::refs::Named;
-use references::refs::Ref;
+use references::refs::IndexAnswer;
 use references::refs::RefAnswer;
 use references::refs::TargetAnswer;
-use references::sheet::Settings;
+use sheet::Settings;
 use tokens::cursor::Accepted;
 use tokens::cursor::Cursor;
 use tokens::cursor::Refusal;
 use tokens::cursor::Taken;
+use tokens::kind;
 ghost use mathlib.Core.Path.{_≡_};
-ghost use Rattle.text.specs.Choice.{pick};
 ghost use Rattle.tokens.specs.Cursor.{tokens};
 ghost use Rattle.tokens.specs.Record.{capacity};
-ghost use Rattle.references.specs.Sheet.{viewOf};
-ghost use Rattle.sections.specs.Range.{rangeOf};
-ghost use Rattle.sections.specs.declared.condition.Sun.the-variants.{Up, Down};
-ghost use Rattle.sections.specs.declared.condition.Hcl.the-variants.{Enabled, Overridden};
-ghost use Rattle.sections.specs.Condition.{comparisonAt, controllerCondition, timerCondition, ruleCondition, olderThan, lastFiredCondition, deviceCondition, sunCondition, timeTo, timeCondition, groupCondition, hclFor, hclCondition, lampJudged, lampCompared, lampPoint, lampState, lampCondition, lightThan, lightCondition, inputState, inputCondition, textOperand, operandAt, varCompared, varCondition, plainCondition, laterCondition, conditionBy, conditionAt, toComparison, toOperand, toCondition};
+ghost use Rattle.sheet.specs.View.{viewOf};
+ghost use Rattle.language.specs.Range.{rangeOf};
+ghost use Rattle.language.specs.Condition.{comparisonAt, controllerCondition, timerCondition, ruleCondition, lastFiredCondition, deviceCondition, sunOf, sunCondition, timeTo, timeCondition, groupCondition, hclOf, hclCondition, lampPropertyOf, lampJudged, lampCompared, lampPoint, lampState, lampCondition, lightThan, inputState, inputCondition, textOperand, operandAt, varCompared, varCondition, conditionBy, conditionAt};
+ghost use Rattle.sections.specs.Answers.{toComparison, toOperand, toCondition};
 
-pub enum Sun {
-    Up,
-    Down,
-}
-
-pub enum Hcl {
-    Enabled,
-    Overridden,
-}
-
-pub enum Comparison {
-    Eq,
-    Ne,
-    Ge,
-    Le,
-    Gt,
-    Lt,
-}
-
-// What a var is compared with.
-pub enum Operand {
-    Text(Name),
-    Number(Value),
-}
-
-pub enum Condition {
-    TimeInRange(TimeBound, TimeBound),
-    SunIs(Sun),
-    LampIs(Ref, Power),
-    LampLevel(Ref, Comparison, Value),
-    LampCct(Ref, Comparison, Value),
-    GroupState(Ref, Aggregate),
-    InputOccupancy(InputRef, Occupancy),
-    InputLight(InputRef, Crossing, Value),
-    HclState(LightTarget, Hcl),
-    DeviceOnline(Ref),
-    RuleEnabled(Name),
-    // in milliseconds
-    LastFiredOlderThan(Name, u32),
-    TimerRunning(Name),
-    ControllerActive,
-    VarCompare(Name, Comparison, Operand),
-}
+// The longest text of a var, in bytes.
+const MAX_VAR_TEXT: usize = 16;
 
 pub enum ComparisonAnswer {
     Got(Comparison, Cursor),
@@ -97,22 +55,32 @@ pub enum ConditionAnswer {
     No(Refusal),
 }
 
-fn sun_is(up: bool) -> Sun
-    ensures { λ r. ⌜ r ≡ pick up Up Down ⌝ }
+// What the n-th word of a pair stands for, here and below.
+fn sun_by(n: u32) -> Sun
+    ensures { λ r. ⌜ r ≡ sunOf n ⌝ }
 {
-    if up {
+    if n == 0 {
         return Sun::Up;
     }
     Sun::Down
 }
 
-fn hcl_is(enabled: bool) -> Hcl
-    ensures { λ r. ⌜ r ≡ pick enabled Enabled Overridden ⌝ }
+fn hcl_by(n: u32) -> Hcl
+    ensures { λ r. ⌜ r ≡ hclOf n ⌝ }
 {
-    if enabled {
+    if n == 0 {
         return Hcl::Enabled;
     }
     Hcl::Overridden
+}
+
+fn lamp_property(n: u32) -> LampProperty
+    ensures { λ r. ⌜ r ≡ lampPropertyOf n ⌝ }
+{
+    if n == 0 {
+        return LampProperty::Level;
+    }
+    LampProperty::Cct
 }
 
 // One of ==, !=, >=, <=, > and <; else 20. Whatever token is there has its own kind, so accept answers the cursor behind it.
@@ -123,26 +91,24 @@ pub fn comparison_at(c: Cursor, text: &[u8], words: &[u32]) -> ComparisonAnswer
     let kind = c.peek(words);
     let token = c.accept(text, words, kind);
     match token {
-        Accepted::Left => {
-            return ComparisonAnswer::No(tokens::cursor::refuse(20, i));
-        }
+        Accepted::Left => return ComparisonAnswer::No(tokens::cursor::refuse(20, i)),
         Accepted::Yes(behind) => {
-            if kind == 15 {
+            if kind == kind::EQ {
                 return ComparisonAnswer::Got(Comparison::Eq, behind);
             }
-            if kind == 16 {
+            if kind == kind::NE {
                 return ComparisonAnswer::Got(Comparison::Ne, behind);
             }
-            if kind == 17 {
+            if kind == kind::GE {
                 return ComparisonAnswer::Got(Comparison::Ge, behind);
             }
-            if kind == 18 {
+            if kind == kind::LE {
                 return ComparisonAnswer::Got(Comparison::Le, behind);
             }
-            if kind == 19 {
+            if kind == kind::GT {
                 return ComparisonAnswer::Got(Comparison::Gt, behind);
             }
-            if kind == 20 {
+            if kind == kind::LT {
                 return ComparisonAnswer::Got(Comparison::Lt, behind);
             }
             return ComparisonAnswer::No(tokens::cursor::refuse(20, i));
@@ -154,22 +120,10 @@ pub fn comparison_at(c: Cursor, text: &[u8], words: &[u32]) -> ComparisonAnswer
 fn controller_condition(c: Cursor, text: &[u8], words: &[u32]) -> ConditionAnswer
     ensures { λ r. ⌜ r ≡ toCondition (controllerCondition (tokens (now (text .entry)) (now (words .entry))) (c .index)) ⌝ }
 {
-    let is = c.expect_kw(text, words, b"is");
-    match is {
-        Taken::No(refusal) => {
-            return ConditionAnswer::No(refusal);
-        }
-        Taken::Got(_, next) => {
-            let active = next.expect_kw(text, words, b"active");
-            match active {
-                Taken::No(refusal) => {
-                    return ConditionAnswer::No(refusal);
-                }
-                Taken::Got(_, behind) => {
-                    return ConditionAnswer::Got(Condition::ControllerActive, behind);
-                }
-            }
-        }
+    let phrase = c.expect_phrase(text, words, b"is active");
+    match phrase {
+        Taken::No(refusal) => return ConditionAnswer::No(refusal),
+        Taken::Got(_, behind) => return ConditionAnswer::Got(Condition::ControllerActive, behind),
     }
 }
 
@@ -177,33 +131,13 @@ fn controller_condition(c: Cursor, text: &[u8], words: &[u32]) -> ConditionAnswe
 fn timer_condition(c: Cursor, text: &[u8], words: &[u32]) -> ConditionAnswer
     ensures { λ r. ⌜ r ≡ toCondition (timerCondition (tokens (now (text .entry)) (now (words .entry))) (rangeOf (now (words .entry))) (c .index)) ⌝ }
 {
-    let name = refs::quoted_name(c, text, words);
+    let name = words::named_phrase(c, text, words, b"is running");
     match name {
-        Named::No(refusal) => {
-            return ConditionAnswer::No(refusal);
-        }
-        Named::Got(i, next) => {
-            let is = next.expect_kw(text, words, b"is");
-            match is {
-                Taken::No(refusal) => {
-                    return ConditionAnswer::No(refusal);
-                }
-                Taken::Got(_, further) => {
-                    let running = further.expect_kw(text, words, b"running");
-                    match running {
-                        Taken::No(refusal) => {
-                            return ConditionAnswer::No(refusal);
-                        }
-                        Taken::Got(_, behind) => {
-                            return ConditionAnswer::Got(
-                                Condition::TimerRunning(name::range(words, i)),
-                                behind,
-                            );
-                        }
-                    }
-                }
-            }
-        }
+        IndexAnswer::No(refusal) => return ConditionAnswer::No(refusal),
+        IndexAnswer::Got(i, behind) => return ConditionAnswer::Got(
+            Condition::TimerRunning(name::range(words, i)),
+            behind,
+        ),
     }
 }
 
@@ -211,66 +145,13 @@ fn timer_condition(c: Cursor, text: &[u8], words: &[u32]) -> ConditionAnswer
 fn rule_condition(c: Cursor, text: &[u8], words: &[u32]) -> ConditionAnswer
     ensures { λ r. ⌜ r ≡ toCondition (ruleCondition (tokens (now (text .entry)) (now (words .entry))) (rangeOf (now (words .entry))) (c .index)) ⌝ }
 {
-    let name = refs::quoted_name(c, text, words);
+    let name = words::named_phrase(c, text, words, b"is enabled");
     match name {
-        Named::No(refusal) => {
-            return ConditionAnswer::No(refusal);
-        }
-        Named::Got(i, next) => {
-            let is = next.expect_kw(text, words, b"is");
-            match is {
-                Taken::No(refusal) => {
-                    return ConditionAnswer::No(refusal);
-                }
-                Taken::Got(_, further) => {
-                    let enabled = further.expect_kw(text, words, b"enabled");
-                    match enabled {
-                        Taken::No(refusal) => {
-                            return ConditionAnswer::No(refusal);
-                        }
-                        Taken::Got(_, behind) => {
-                            return ConditionAnswer::Got(
-                                Condition::RuleEnabled(name::range(words, i)),
-                                behind,
-                            );
-                        }
-                    }
-                }
-            }
-        }
-    }
-}
-
-fn older_than(c: Cursor, text: &[u8], words: &[u32], name: Name) -> ConditionAnswer
-    ensures { λ r. ⌜ r ≡ toCondition (olderThan (tokens (now (text .entry)) (now (words .entry))) name (c .index)) ⌝ }
-{
-    let older = c.expect_kw(text, words, b"older");
-    match older {
-        Taken::No(refusal) => {
-            return ConditionAnswer::No(refusal);
-        }
-        Taken::Got(_, next) => {
-            let than = next.expect_kw(text, words, b"than");
-            match than {
-                Taken::No(refusal) => {
-                    return ConditionAnswer::No(refusal);
-                }
-                Taken::Got(_, further) => {
-                    let duration = further.expect(text, words, 5);
-                    match duration {
-                        Taken::No(refusal) => {
-                            return ConditionAnswer::No(refusal);
-                        }
-                        Taken::Got(ms, behind) => {
-                            return ConditionAnswer::Got(
-                                Condition::LastFiredOlderThan(name, ms),
-                                behind,
-                            );
-                        }
-                    }
-                }
-            }
-        }
+        IndexAnswer::No(refusal) => return ConditionAnswer::No(refusal),
+        IndexAnswer::Got(i, behind) => return ConditionAnswer::Got(
+            Condition::RuleEnabled(name::range(words, i)),
+            behind,
+        ),
     }
 }
 
@@ -278,13 +159,18 @@ fn older_than(c: Cursor, text: &[u8], words: &[u32], name: Name) -> ConditionAns
 fn last_fired_condition(c: Cursor, text: &[u8], words: &[u32]) -> ConditionAnswer
     ensures { λ r. ⌜ r ≡ toCondition (lastFiredCondition (tokens (now (text .entry)) (now (words .entry))) (rangeOf (now (words .entry))) (c .index)) ⌝ }
 {
-    let name = refs::quoted_name(c, text, words);
+    let name = words::named_phrase(c, text, words, b"older than");
     match name {
-        Named::No(refusal) => {
-            return ConditionAnswer::No(refusal);
-        }
-        Named::Got(i, behind) => {
-            return older_than(behind, text, words, name::range(words, i));
+        IndexAnswer::No(refusal) => return ConditionAnswer::No(refusal),
+        IndexAnswer::Got(i, next) => {
+            let age = next.expect_duration(text, words);
+            match age {
+                Taken::No(refusal) => return ConditionAnswer::No(refusal),
+                Taken::Got(ms, behind) => return ConditionAnswer::Got(
+                    Condition::LastFiredOlderThan(name::range(words, i), ms),
+                    behind,
+                ),
+            }
         }
     }
 }
@@ -301,26 +187,15 @@ fn device_condition(
 {
     let found = refs::device_ref(c, text, words, s, settings);
     match found {
-        RefAnswer::No(refusal) => {
-            return ConditionAnswer::No(refusal);
-        }
+        RefAnswer::No(refusal) => return ConditionAnswer::No(refusal),
         RefAnswer::Got(device, next) => {
-            let is = next.expect_kw(text, words, b"is");
-            match is {
-                Taken::No(refusal) => {
-                    return ConditionAnswer::No(refusal);
-                }
-                Taken::Got(_, further) => {
-                    let online = further.expect_kw(text, words, b"online");
-                    match online {
-                        Taken::No(refusal) => {
-                            return ConditionAnswer::No(refusal);
-                        }
-                        Taken::Got(_, behind) => {
-                            return ConditionAnswer::Got(Condition::DeviceOnline(device), behind);
-                        }
-                    }
-                }
+            let phrase = next.expect_phrase(text, words, b"is online");
+            match phrase {
+                Taken::No(refusal) => return ConditionAnswer::No(refusal),
+                Taken::Got(_, behind) => return ConditionAnswer::Got(
+                    Condition::DeviceOnline(device),
+                    behind,
+                ),
             }
         }
     }
@@ -330,42 +205,27 @@ fn device_condition(
 fn sun_condition(c: Cursor, text: &[u8], words: &[u32]) -> ConditionAnswer
     ensures { λ r. ⌜ r ≡ toCondition (sunCondition (tokens (now (text .entry)) (now (words .entry))) (c .index)) ⌝ }
 {
-    let is = c.expect_kw(text, words, b"is");
-    match is {
-        Taken::No(refusal) => {
-            return ConditionAnswer::No(refusal);
-        }
-        Taken::Got(_, next) => {
-            let state = words::pair(next, text, words, b"up", b"down");
-            match state {
-                PairAnswer::No(refusal) => {
-                    return ConditionAnswer::No(refusal);
-                }
-                PairAnswer::Got(up, behind) => {
-                    return ConditionAnswer::Got(Condition::SunIs(sun_is(up)), behind);
-                }
-            }
-        }
+    let state = c.expect_phrase_choice(text, words, b"is", b"up down");
+    match state {
+        Taken::No(refusal) => return ConditionAnswer::No(refusal),
+        Taken::Got(n, behind) => return ConditionAnswer::Got(Condition::SunIs(sun_by(n)), behind),
     }
 }
 
 fn time_to(c: Cursor, text: &[u8], words: &[u32], start: TimeBound) -> ConditionAnswer
     ensures { λ r. ⌜ r ≡ toCondition (timeTo (tokens (now (text .entry)) (now (words .entry))) start (c .index)) ⌝ }
 {
-    let points = c.expect(text, words, 13);
+    let points = c.expect(text, words, kind::POINTS);
     match points {
-        Taken::No(refusal) => {
-            return ConditionAnswer::No(refusal);
-        }
+        Taken::No(refusal) => return ConditionAnswer::No(refusal),
         Taken::Got(_, next) => {
             let bound = timeval::time_bound(next, text, words);
             match bound {
-                BoundAnswer::No(refusal) => {
-                    return ConditionAnswer::No(refusal);
-                }
-                BoundAnswer::Got(end, behind) => {
-                    return ConditionAnswer::Got(Condition::TimeInRange(start, end), behind);
-                }
+                BoundAnswer::No(refusal) => return ConditionAnswer::No(refusal),
+                BoundAnswer::Got(end, behind) => return ConditionAnswer::Got(
+                    Condition::TimeInRange(start, end),
+                    behind,
+                ),
             }
         }
     }
@@ -377,18 +237,12 @@ fn time_condition(c: Cursor, text: &[u8], words: &[u32]) -> ConditionAnswer
 {
     let within = c.expect_kw(text, words, b"in");
     match within {
-        Taken::No(refusal) => {
-            return ConditionAnswer::No(refusal);
-        }
+        Taken::No(refusal) => return ConditionAnswer::No(refusal),
         Taken::Got(_, next) => {
             let bound = timeval::time_bound(next, text, words);
             match bound {
-                BoundAnswer::No(refusal) => {
-                    return ConditionAnswer::No(refusal);
-                }
-                BoundAnswer::Got(start, behind) => {
-                    return time_to(behind, text, words, start);
-                }
+                BoundAnswer::No(refusal) => return ConditionAnswer::No(refusal),
+                BoundAnswer::Got(start, behind) => return time_to(behind, text, words, start),
             }
         }
     }
@@ -406,59 +260,21 @@ fn group_condition(
 {
     let found = refs::group_ref(c, text, words, s, settings);
     match found {
-        RefAnswer::No(refusal) => {
-            return ConditionAnswer::No(refusal);
-        }
+        RefAnswer::No(refusal) => return ConditionAnswer::No(refusal),
         RefAnswer::Got(group, next) => {
-            let state = words::pair(next, text, words, b"any_on", b"all_off");
+            let state = next.expect_choice(text, words, b"any_on all_off", 21);
             match state {
-                PairAnswer::No(refusal) => {
-                    return ConditionAnswer::No(refusal);
-                }
-                PairAnswer::Got(any, behind) => {
-                    return ConditionAnswer::Got(
-                        Condition::GroupState(group, trigger::aggregate_by(any)),
-                        behind,
-                    );
-                }
+                Taken::No(refusal) => return ConditionAnswer::No(refusal),
+                Taken::Got(n, behind) => return ConditionAnswer::Got(
+                    Condition::GroupState(group, trigger::aggregate_by(n)),
+                    behind,
+                ),
             }
         }
     }
 }
 
-fn hcl_for(
-    c: Cursor,
-    text: &[u8],
-    words: &[u32],
-    s: &[u8],
-    settings: Settings,
-    enabled: bool,
-) -> ConditionAnswer
-    ensures { λ r. ⌜ r ≡ toCondition (hclFor (tokens (now (text .entry)) (now (words .entry))) (viewOf settings (now (s .entry))) enabled (c .index)) ⌝ }
-{
-    let word = c.expect_kw(text, words, b"for");
-    match word {
-        Taken::No(refusal) => {
-            return ConditionAnswer::No(refusal);
-        }
-        Taken::Got(_, next) => {
-            let found = refs::light_target(next, text, words, s, settings);
-            match found {
-                TargetAnswer::No(refusal) => {
-                    return ConditionAnswer::No(refusal);
-                }
-                TargetAnswer::Got(target, behind) => {
-                    return ConditionAnswer::Got(
-                        Condition::HclState(target, hcl_is(enabled)),
-                        behind,
-                    );
-                }
-            }
-        }
-    }
-}
-
-// hcl is enabled or overridden, for TARGET.
+// hcl is enabled or overridden for TARGET.
 fn hcl_condition(
     c: Cursor,
     text: &[u8],
@@ -468,26 +284,23 @@ fn hcl_condition(
 ) -> ConditionAnswer
     ensures { λ r. ⌜ r ≡ toCondition (hclCondition (tokens (now (text .entry)) (now (words .entry))) (viewOf settings (now (s .entry))) (c .index)) ⌝ }
 {
-    let is = c.expect_kw(text, words, b"is");
-    match is {
-        Taken::No(refusal) => {
-            return ConditionAnswer::No(refusal);
-        }
-        Taken::Got(_, next) => {
-            let state = words::pair(next, text, words, b"enabled", b"overridden");
-            match state {
-                PairAnswer::No(refusal) => {
-                    return ConditionAnswer::No(refusal);
-                }
-                PairAnswer::Got(enabled, behind) => {
-                    return hcl_for(behind, text, words, s, settings, enabled);
-                }
+    let state = c.expect_phrase_choice(text, words, b"is", b"enabled overridden");
+    match state {
+        Taken::No(refusal) => return ConditionAnswer::No(refusal),
+        Taken::Got(n, next) => {
+            let target = words::target_for(next, text, words, s, settings);
+            match target {
+                TargetAnswer::No(refusal) => return ConditionAnswer::No(refusal),
+                TargetAnswer::Got(light, behind) => return ConditionAnswer::Got(
+                    Condition::HclState(light, hcl_by(n)),
+                    behind,
+                ),
             }
         }
     }
 }
 
-// The lamp's property at the token p, judged after the comparison and the value; another than level and cct is refused with 21.
+// A lamp's property, whose word stands at the token p, judged after the comparison and the value; another than level and cct is refused with 21.
 fn lamp_judged(
     behind: Cursor,
     text: &[u8],
@@ -499,14 +312,15 @@ fn lamp_judged(
 ) -> ConditionAnswer
     ensures { λ r. ⌜ r ≡ toCondition (lampJudged (tokens (now (text .entry)) (now (words .entry))) lamp p comparison value (behind .index)) ⌝ }
 {
-    let w = tokens::record::bytes(text, words, p);
-    if text::part::same(w, b"level") {
-        return ConditionAnswer::Got(Condition::LampLevel(lamp, comparison, value), behind);
+    let word = Cursor { index: p };
+    let property = word.expect_choice(text, words, b"level cct", 21);
+    match property {
+        Taken::No(refusal) => return ConditionAnswer::No(refusal),
+        Taken::Got(n, _) => return ConditionAnswer::Got(
+            Condition::LampCompare(lamp, lamp_property(n), comparison, value),
+            behind,
+        ),
     }
-    if text::part::same(w, b"cct") {
-        return ConditionAnswer::Got(Condition::LampCct(lamp, comparison, value), behind);
-    }
-    ConditionAnswer::No(tokens::cursor::refuse(21, p))
 }
 
 fn lamp_compared(
@@ -522,18 +336,20 @@ fn lamp_compared(
 {
     let sign = comparison_at(c, text, words);
     match sign {
-        ComparisonAnswer::No(refusal) => {
-            return ConditionAnswer::No(refusal);
-        }
+        ComparisonAnswer::No(refusal) => return ConditionAnswer::No(refusal),
         ComparisonAnswer::Got(comparison, next) => {
             let right = expr::value_expr(next, text, words, s, settings);
             match right {
-                ValueAnswer::No(refusal) => {
-                    return ConditionAnswer::No(refusal);
-                }
-                ValueAnswer::Got(value, behind) => {
-                    return lamp_judged(behind, text, words, lamp, p, comparison, value);
-                }
+                ValueAnswer::No(refusal) => return ConditionAnswer::No(refusal),
+                ValueAnswer::Got(value, behind) => return lamp_judged(
+                    behind,
+                    text,
+                    words,
+                    lamp,
+                    p,
+                    comparison,
+                    value,
+                ),
             }
         }
     }
@@ -551,12 +367,16 @@ fn lamp_point(
 {
     let property = words::property_word(c, text, words);
     match property {
-        Named::No(refusal) => {
-            return ConditionAnswer::No(refusal);
-        }
-        Named::Got(p, behind) => {
-            return lamp_compared(behind, text, words, s, settings, lamp, p);
-        }
+        IndexAnswer::No(refusal) => return ConditionAnswer::No(refusal),
+        IndexAnswer::Got(p, behind) => return lamp_compared(
+            behind,
+            text,
+            words,
+            s,
+            settings,
+            lamp,
+            p,
+        ),
     }
 }
 
@@ -571,25 +391,17 @@ fn lamp_state(
     ensures { λ r. ⌜ r ≡ toCondition (lampState (tokens (now (text .entry)) (now (words .entry))) (viewOf settings (now (s .entry))) (rangeOf (now (words .entry))) (capacity (now (words .entry))) lamp (c .index)) ⌝ }
 {
     let is = c.accept_kw(text, words, b"is");
-    match is {
-        Accepted::Left => {
-            return lamp_point(c, text, words, s, settings, lamp);
-        }
-        Accepted::Yes(next) => {
-            let state = words::pair(next, text, words, b"on", b"off");
-            match state {
-                PairAnswer::No(refusal) => {
-                    return ConditionAnswer::No(refusal);
-                }
-                PairAnswer::Got(on, behind) => {
-                    return ConditionAnswer::Got(
-                        Condition::LampIs(lamp, trigger::power_by(on)),
-                        behind,
-                    );
-                }
-            }
+    if let Accepted::Yes(next) = is {
+        let state = next.expect_choice(text, words, b"on off", 21);
+        match state {
+            Taken::No(refusal) => return ConditionAnswer::No(refusal),
+            Taken::Got(n, behind) => return ConditionAnswer::Got(
+                Condition::LampIs(lamp, trigger::power_by(n)),
+                behind,
+            ),
         }
     }
+    lamp_point(c, text, words, s, settings, lamp)
 }
 
 // lamp R is on or off, or its level or cct compared with VALUE.
@@ -604,12 +416,8 @@ fn lamp_condition(
 {
     let found = refs::lamp_ref(c, text, words, s, settings);
     match found {
-        RefAnswer::No(refusal) => {
-            return ConditionAnswer::No(refusal);
-        }
-        RefAnswer::Got(lamp, behind) => {
-            return lamp_state(behind, text, words, s, settings, lamp);
-        }
+        RefAnswer::No(refusal) => return ConditionAnswer::No(refusal),
+        RefAnswer::Got(lamp, behind) => return lamp_state(behind, text, words, s, settings, lamp),
     }
 }
 
@@ -623,51 +431,22 @@ fn light_than(
 ) -> ConditionAnswer
     ensures { λ r. ⌜ r ≡ toCondition (lightThan (tokens (now (text .entry)) (now (words .entry))) (viewOf settings (now (s .entry))) (rangeOf (now (words .entry))) (capacity (now (words .entry))) input (c .index)) ⌝ }
 {
-    let side = words::pair(c, text, words, b"above", b"below");
-    match side {
-        PairAnswer::No(refusal) => {
-            return ConditionAnswer::No(refusal);
-        }
-        PairAnswer::Got(above, next) => {
-            let right = expr::value_expr(next, text, words, s, settings);
-            match right {
-                ValueAnswer::No(refusal) => {
-                    return ConditionAnswer::No(refusal);
-                }
-                ValueAnswer::Got(value, behind) => {
-                    return ConditionAnswer::Got(
-                        Condition::InputLight(input, trigger::crossing_by(above), value),
-                        behind,
-                    );
-                }
-            }
-        }
-    }
-}
-
-fn light_condition(
-    c: Cursor,
-    text: &[u8],
-    words: &[u32],
-    s: &[u8],
-    settings: Settings,
-    input: InputRef,
-) -> ConditionAnswer
-    ensures { λ r. ⌜ r ≡ toCondition (lightCondition (tokens (now (text .entry)) (now (words .entry))) (viewOf settings (now (s .entry))) (rangeOf (now (words .entry))) (capacity (now (words .entry))) input (c .index)) ⌝ }
-{
-    let point = c.expect(text, words, 12);
-    match point {
-        Taken::No(refusal) => {
-            return ConditionAnswer::No(refusal);
-        }
-        Taken::Got(_, next) => {
-            let light = next.expect_kw(text, words, b"light");
-            match light {
-                Taken::No(refusal) => {
-                    return ConditionAnswer::No(refusal);
-                }
-                Taken::Got(_, behind) => {
-                    return light_than(behind, text, words, s, settings, input);
+    let light = c.expect_point_phrase(text, words, b"light");
+    match light {
+        Taken::No(refusal) => return ConditionAnswer::No(refusal),
+        Taken::Got(_, pointed) => {
+            let way = pointed.expect_choice(text, words, b"above below", 21);
+            match way {
+                Taken::No(refusal) => return ConditionAnswer::No(refusal),
+                Taken::Got(n, next) => {
+                    let right = expr::value_expr(next, text, words, s, settings);
+                    match right {
+                        ValueAnswer::No(refusal) => return ConditionAnswer::No(refusal),
+                        ValueAnswer::Got(value, behind) => return ConditionAnswer::Got(
+                            Condition::InputLight(input, trigger::crossing_by(n), value),
+                            behind,
+                        ),
+                    }
                 }
             }
         }
@@ -685,25 +464,17 @@ fn input_state(
     ensures { λ r. ⌜ r ≡ toCondition (inputState (tokens (now (text .entry)) (now (words .entry))) (viewOf settings (now (s .entry))) (rangeOf (now (words .entry))) (capacity (now (words .entry))) input (c .index)) ⌝ }
 {
     let is = c.accept_kw(text, words, b"is");
-    match is {
-        Accepted::Left => {
-            return light_condition(c, text, words, s, settings, input);
-        }
-        Accepted::Yes(next) => {
-            let state = words::pair(next, text, words, b"occupied", b"vacant");
-            match state {
-                PairAnswer::No(refusal) => {
-                    return ConditionAnswer::No(refusal);
-                }
-                PairAnswer::Got(occupied, behind) => {
-                    return ConditionAnswer::Got(
-                        Condition::InputOccupancy(input, trigger::occupancy_by(occupied)),
-                        behind,
-                    );
-                }
-            }
+    if let Accepted::Yes(next) = is {
+        let state = next.expect_choice(text, words, b"occupied vacant", 21);
+        match state {
+            Taken::No(refusal) => return ConditionAnswer::No(refusal),
+            Taken::Got(n, behind) => return ConditionAnswer::Got(
+                Condition::InputOccupancy(input, trigger::occupancy_by(n)),
+                behind,
+            ),
         }
     }
+    light_than(c, text, words, s, settings, input)
 }
 
 // input ARGS, one instance, is occupied or vacant, or its light above or below VALUE.
@@ -718,12 +489,15 @@ fn input_condition(
 {
     let found = args::input_ref(c, text, words, s, settings);
     match found {
-        InputAnswer::No(refusal) => {
-            return ConditionAnswer::No(refusal);
-        }
-        InputAnswer::Got(input, behind) => {
-            return input_state(behind, text, words, s, settings, input);
-        }
+        InputAnswer::No(refusal) => return ConditionAnswer::No(refusal),
+        InputAnswer::Got(input, behind) => return input_state(
+            behind,
+            text,
+            words,
+            s,
+            settings,
+            input,
+        ),
     }
 }
 
@@ -734,12 +508,10 @@ fn text_operand(c: Cursor, text: &[u8], words: &[u32]) -> OperandAnswer
     let i = c.index;
     let string = c.expect_string(text, words);
     match string {
-        Taken::No(refusal) => {
-            return OperandAnswer::No(refusal);
-        }
+        Taken::No(refusal) => return OperandAnswer::No(refusal),
         Taken::Got(_, behind) => {
-            let bytes = tokens::record::bytes(text, words, i);
-            if 16 < bytes.len() {
+            let bytes = tokens::cursor::bytes(text, words, i);
+            if MAX_VAR_TEXT < bytes.len() {
                 return OperandAnswer::No(tokens::cursor::refuse(24, i));
             }
             return OperandAnswer::Got(Operand::Text(name::range(words, i)), behind);
@@ -751,17 +523,16 @@ fn text_operand(c: Cursor, text: &[u8], words: &[u32]) -> OperandAnswer
 fn var_operand(c: Cursor, text: &[u8], words: &[u32], s: &[u8], settings: Settings) -> OperandAnswer
     ensures { λ r. ⌜ r ≡ toOperand (operandAt (tokens (now (text .entry)) (now (words .entry))) (viewOf settings (now (s .entry))) (rangeOf (now (words .entry))) (capacity (now (words .entry))) (c .index)) ⌝ }
 {
-    if c.peek_is(text, words, 2) {
+    if c.peek_is(text, words, kind::STRING) {
         return text_operand(c, text, words);
     }
     let right = expr::value_expr(c, text, words, s, settings);
     match right {
-        ValueAnswer::No(refusal) => {
-            return OperandAnswer::No(refusal);
-        }
-        ValueAnswer::Got(value, behind) => {
-            return OperandAnswer::Got(Operand::Number(value), behind);
-        }
+        ValueAnswer::No(refusal) => return OperandAnswer::No(refusal),
+        ValueAnswer::Got(value, behind) => return OperandAnswer::Got(
+            Operand::Number(value),
+            behind,
+        ),
     }
 }
 
@@ -777,21 +548,15 @@ fn var_compared(
 {
     let sign = comparison_at(c, text, words);
     match sign {
-        ComparisonAnswer::No(refusal) => {
-            return ConditionAnswer::No(refusal);
-        }
+        ComparisonAnswer::No(refusal) => return ConditionAnswer::No(refusal),
         ComparisonAnswer::Got(comparison, next) => {
             let right = var_operand(next, text, words, s, settings);
             match right {
-                OperandAnswer::No(refusal) => {
-                    return ConditionAnswer::No(refusal);
-                }
-                OperandAnswer::Got(operand, behind) => {
-                    return ConditionAnswer::Got(
-                        Condition::VarCompare(name, comparison, operand),
-                        behind,
-                    );
-                }
+                OperandAnswer::No(refusal) => return ConditionAnswer::No(refusal),
+                OperandAnswer::Got(operand, behind) => return ConditionAnswer::Got(
+                    Condition::VarCompare(name, comparison, operand),
+                    behind,
+                ),
             }
         }
     }
@@ -809,97 +574,48 @@ fn var_condition(
 {
     let name = refs::quoted_name(c, text, words);
     match name {
-        Named::No(refusal) => {
-            return ConditionAnswer::No(refusal);
-        }
-        Named::Got(i, behind) => {
-            return var_compared(behind, text, words, s, settings, name::range(words, i));
-        }
+        IndexAnswer::No(refusal) => return ConditionAnswer::No(refusal),
+        IndexAnswer::Got(i, behind) => return var_compared(
+            behind,
+            text,
+            words,
+            s,
+            settings,
+            name::range(words, i),
+        ),
     }
 }
 
-// The conditions that need no sheet; day is refused with 40, any other word with 21.
-fn plain_condition(
-    i: usize,
-    behind: Cursor,
-    w: &[u8],
-    text: &[u8],
-    words: &[u32],
-) -> ConditionAnswer
-    ensures { λ r. ⌜ r ≡ toCondition (plainCondition (tokens (now (text .entry)) (now (words .entry))) (rangeOf (now (words .entry))) i (behind .index) (now (w .entry))) ⌝ }
-{
-    if text::part::same(w, b"rule") {
-        return rule_condition(behind, text, words);
-    }
-    if text::part::same(w, b"last_fired") {
-        return last_fired_condition(behind, text, words);
-    }
-    if text::part::same(w, b"timer") {
-        return timer_condition(behind, text, words);
-    }
-    if text::part::same(w, b"controller") {
-        return controller_condition(behind, text, words);
-    }
-    if text::part::same(w, b"day") {
-        return ConditionAnswer::No(tokens::cursor::refuse(40, i));
-    }
-    ConditionAnswer::No(tokens::cursor::refuse(21, i))
-}
-
-fn later_condition(
-    i: usize,
-    behind: Cursor,
-    w: &[u8],
-    text: &[u8],
-    words: &[u32],
-    s: &[u8],
-    settings: Settings,
-) -> ConditionAnswer
-    ensures { λ r. ⌜ r ≡ toCondition (laterCondition (tokens (now (text .entry)) (now (words .entry))) (viewOf settings (now (s .entry))) (rangeOf (now (words .entry))) (capacity (now (words .entry))) i (behind .index) (now (w .entry))) ⌝ }
-{
-    if text::part::same(w, b"input") {
-        return input_condition(behind, text, words, s, settings);
-    }
-    if text::part::same(w, b"hcl") {
-        return hcl_condition(behind, text, words, s, settings);
-    }
-    if text::part::same(w, b"device") {
-        return device_condition(behind, text, words, s, settings);
-    }
-    if text::part::same(w, b"var") {
-        return var_condition(behind, text, words, s, settings);
-    }
-    plain_condition(i, behind, w, text, words)
-}
-
-// The condition with the first word w at the token i.
+// The condition with the n-th first word, at the token i. The last of them, day, is refused with 40.
 fn condition_by(
     i: usize,
+    n: u32,
     behind: Cursor,
-    w: &[u8],
     text: &[u8],
     words: &[u32],
     s: &[u8],
     settings: Settings,
 ) -> ConditionAnswer
-    ensures { λ r. ⌜ r ≡ toCondition (conditionBy (tokens (now (text .entry)) (now (words .entry))) (viewOf settings (now (s .entry))) (rangeOf (now (words .entry))) (capacity (now (words .entry))) i (behind .index) (now (w .entry))) ⌝ }
+    ensures { λ r. ⌜ r ≡ toCondition (conditionBy (tokens (now (text .entry)) (now (words .entry))) (viewOf settings (now (s .entry))) (rangeOf (now (words .entry))) (capacity (now (words .entry))) i n (behind .index)) ⌝ }
 {
-    if text::part::same(w, b"time") {
-        return time_condition(behind, text, words);
+    match n {
+        0 => return time_condition(behind, text, words),
+        1 => return sun_condition(behind, text, words),
+        2 => return lamp_condition(behind, text, words, s, settings),
+        3 => return group_condition(behind, text, words, s, settings),
+        4 => return input_condition(behind, text, words, s, settings),
+        5 => return hcl_condition(behind, text, words, s, settings),
+        6 => return device_condition(behind, text, words, s, settings),
+        7 => return rule_condition(behind, text, words),
+        8 => return last_fired_condition(behind, text, words),
+        9 => return timer_condition(behind, text, words),
+        10 => return controller_condition(behind, text, words),
+        11 => return var_condition(behind, text, words, s, settings),
+        _ => return ConditionAnswer::No(tokens::cursor::refuse(40, i)),
     }
-    if text::part::same(w, b"sun") {
-        return sun_condition(behind, text, words);
-    }
-    if text::part::same(w, b"lamp") {
-        return lamp_condition(behind, text, words, s, settings);
-    }
-    if text::part::same(w, b"group") {
-        return group_condition(behind, text, words, s, settings);
-    }
-    later_condition(i, behind, w, text, words, s, settings)
 }
 
-// A condition: any word, which must begin one.
+// A condition, by its first word: no word is refused with 20, another with 21.
 pub fn condition_at(
     c: Cursor,
     text: &[u8],
@@ -910,14 +626,14 @@ pub fn condition_at(
     ensures { λ r. ⌜ r ≡ toCondition (conditionAt (tokens (now (text .entry)) (now (words .entry))) (viewOf settings (now (s .entry))) (rangeOf (now (words .entry))) (capacity (now (words .entry))) (c .index)) ⌝ }
 {
     let i = c.index;
-    let word = c.expect(text, words, 1);
+    let word = c.expect_choice(
+        text,
+        words,
+        b"time sun lamp group input hcl device rule last_fired timer controller var day",
+        21,
+    );
     match word {
-        Taken::No(refusal) => {
-            return ConditionAnswer::No(refusal);
-        }
-        Taken::Got(_, behind) => {
-            let w = tokens::record::bytes(text, words, i);
-            return condition_by(i, behind, w, text, words, s, settings);
-        }
+        Taken::No(refusal) => return ConditionAnswer::No(refusal),
+        Taken::Got(n, behind) => return condition_by(i, n, behind, text, words, s, settings),
     }
 }

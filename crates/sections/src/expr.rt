@@ -1,59 +1,33 @@
 // Values and readings, ported from expr.rs.
 use crate::name;
-use crate::name::Name;
 use crate::words;
+use model::Delta;
+use model::EventReading;
+use model::GroupReading;
+use model::InputReading;
+use model::LampReading;
+use model::Reading;
+use model::SunReading;
+use model::TimeReading;
+use model::Value;
 use references::args;
 use references::args::InputAnswer;
-use references::args::InputRef;
 use references::refs;
-use references::refs::Named;
-use references::refs::Ref;
+use references::refs::IndexAnswer;
 use references::refs::RefAnswer;
-use references::sheet::Settings;
+use sheet::Settings;
 use tokens::cursor::Accepted;
 use tokens::cursor::Cursor;
 use tokens::cursor::Refusal;
 use tokens::cursor::Taken;
+use tokens::kind;
 ghost use mathlib.Core.Path.{_≡_};
 ghost use Rattle.tokens.specs.Cursor.{tokens};
 ghost use Rattle.tokens.specs.Record.{capacity};
-ghost use Rattle.references.specs.Sheet.{viewOf};
-ghost use Rattle.sections.specs.Range.{rangeOf};
-ghost use Rattle.sections.specs.Expr.{lampProperty, groupProperty, inputProperty, timeProperty, sunProperty, eventProperty, propertyAt, lampReading, groupReading, inputReading, varReading, plainReading, readingBy, readingAt, literalAt, deltaAt, withDelta, readValue, valueAt, toReading, toValue};
-
-// What is read while the controller runs.
-pub enum Reading {
-    LampLevel(Ref),
-    LampCct(Ref),
-    LampIsOn(Ref),
-    LampLastLevel(Ref),
-    GroupAnyOn(Ref),
-    GroupAllOff(Ref),
-    GroupMemberCount(Ref),
-    InputOccupied(InputRef),
-    InputLight(InputRef),
-    InputPosition(InputRef),
-    InputLastEventAge(InputRef),
-    TimeNow,
-    TimeHour,
-    TimeMinute,
-    TimeWeekday,
-    SunRise,
-    SunSet,
-    SunIsUp,
-    EventValue,
-    EventDevice,
-    EventInstance,
-    EventOption,
-    Var(Name),
-}
-
-// A number, a reading, or a reading with a number added.
-pub enum Value {
-    Literal(i64),
-    Reads(Reading),
-    Offset(Reading, i64),
-}
+ghost use Rattle.sheet.specs.View.{viewOf};
+ghost use Rattle.language.specs.Range.{rangeOf};
+ghost use Rattle.language.specs.Expr.{lampProperty, groupProperty, inputProperty, timeProperty, sunProperty, eventProperty, lampReading, groupReading, inputReading, timeReading, sunReading, eventReading, varReading, readingBy, readingAt, literalAt, deltaAt, withDelta, readValue, valueAt};
+ghost use Rattle.sections.specs.Answers.{toReading, toValue};
 
 pub enum ReadingAnswer {
     Got(Reading, Cursor),
@@ -65,188 +39,89 @@ pub enum ValueAnswer {
     No(Refusal),
 }
 
-// A lamp's property w at the token i; another word is refused with 21, here and below.
-fn lamp_property(i: usize, behind: Cursor, w: &[u8], lamp: Ref) -> ReadingAnswer
-    ensures { λ r. ⌜ r ≡ toReading (lampProperty lamp i (behind .index) (now (w .entry))) ⌝ }
+// The property with the n-th word of its list, here and below.
+fn lamp_property(n: u32) -> LampReading
+    ensures { λ r. ⌜ r ≡ lampProperty n ⌝ }
 {
-    if text::part::same(w, b"level") {
-        return ReadingAnswer::Got(Reading::LampLevel(lamp), behind);
+    if n == 0 {
+        return LampReading::Level;
     }
-    if text::part::same(w, b"cct") {
-        return ReadingAnswer::Got(Reading::LampCct(lamp), behind);
+    if n == 1 {
+        return LampReading::Cct;
     }
-    if text::part::same(w, b"is_on") {
-        return ReadingAnswer::Got(Reading::LampIsOn(lamp), behind);
+    if n == 2 {
+        return LampReading::IsOn;
     }
-    if text::part::same(w, b"last_level") {
-        return ReadingAnswer::Got(Reading::LampLastLevel(lamp), behind);
-    }
-    ReadingAnswer::No(tokens::cursor::refuse(21, i))
+    LampReading::LastLevel
 }
 
-// A group's property.
-fn group_property(i: usize, behind: Cursor, w: &[u8], group: Ref) -> ReadingAnswer
-    ensures { λ r. ⌜ r ≡ toReading (groupProperty group i (behind .index) (now (w .entry))) ⌝ }
+fn group_property(n: u32) -> GroupReading
+    ensures { λ r. ⌜ r ≡ groupProperty n ⌝ }
 {
-    if text::part::same(w, b"any_on") {
-        return ReadingAnswer::Got(Reading::GroupAnyOn(group), behind);
+    if n == 0 {
+        return GroupReading::AnyOn;
     }
-    if text::part::same(w, b"all_off") {
-        return ReadingAnswer::Got(Reading::GroupAllOff(group), behind);
+    if n == 1 {
+        return GroupReading::AllOff;
     }
-    if text::part::same(w, b"member_count") {
-        return ReadingAnswer::Got(Reading::GroupMemberCount(group), behind);
-    }
-    ReadingAnswer::No(tokens::cursor::refuse(21, i))
+    GroupReading::MemberCount
 }
 
-// A property of an input's instance.
-fn input_property(i: usize, behind: Cursor, w: &[u8], input: InputRef) -> ReadingAnswer
-    ensures { λ r. ⌜ r ≡ toReading (inputProperty input i (behind .index) (now (w .entry))) ⌝ }
+fn input_property(n: u32) -> InputReading
+    ensures { λ r. ⌜ r ≡ inputProperty n ⌝ }
 {
-    if text::part::same(w, b"occupied") {
-        return ReadingAnswer::Got(Reading::InputOccupied(input), behind);
+    if n == 0 {
+        return InputReading::Occupied;
     }
-    if text::part::same(w, b"light") {
-        return ReadingAnswer::Got(Reading::InputLight(input), behind);
+    if n == 1 {
+        return InputReading::Light;
     }
-    if text::part::same(w, b"position") {
-        return ReadingAnswer::Got(Reading::InputPosition(input), behind);
+    if n == 2 {
+        return InputReading::Position;
     }
-    if text::part::same(w, b"last_event_age") {
-        return ReadingAnswer::Got(Reading::InputLastEventAge(input), behind);
-    }
-    ReadingAnswer::No(tokens::cursor::refuse(21, i))
+    InputReading::LastEventAge
 }
 
-// A property of the time.
-fn time_property(i: usize, behind: Cursor, w: &[u8]) -> ReadingAnswer
-    ensures { λ r. ⌜ r ≡ toReading (timeProperty i (behind .index) (now (w .entry))) ⌝ }
+fn time_property(n: u32) -> TimeReading
+    ensures { λ r. ⌜ r ≡ timeProperty n ⌝ }
 {
-    if text::part::same(w, b"now") {
-        return ReadingAnswer::Got(Reading::TimeNow, behind);
+    if n == 0 {
+        return TimeReading::Now;
     }
-    if text::part::same(w, b"hour") {
-        return ReadingAnswer::Got(Reading::TimeHour, behind);
+    if n == 1 {
+        return TimeReading::Hour;
     }
-    if text::part::same(w, b"minute") {
-        return ReadingAnswer::Got(Reading::TimeMinute, behind);
+    if n == 2 {
+        return TimeReading::Minute;
     }
-    if text::part::same(w, b"weekday") {
-        return ReadingAnswer::Got(Reading::TimeWeekday, behind);
-    }
-    ReadingAnswer::No(tokens::cursor::refuse(21, i))
+    TimeReading::Weekday
 }
 
-// A property of the sun.
-fn sun_property(i: usize, behind: Cursor, w: &[u8]) -> ReadingAnswer
-    ensures { λ r. ⌜ r ≡ toReading (sunProperty i (behind .index) (now (w .entry))) ⌝ }
+fn sun_property(n: u32) -> SunReading
+    ensures { λ r. ⌜ r ≡ sunProperty n ⌝ }
 {
-    if text::part::same(w, b"rise") {
-        return ReadingAnswer::Got(Reading::SunRise, behind);
+    if n == 0 {
+        return SunReading::Rise;
     }
-    if text::part::same(w, b"set") {
-        return ReadingAnswer::Got(Reading::SunSet, behind);
+    if n == 1 {
+        return SunReading::Set;
     }
-    if text::part::same(w, b"is_up") {
-        return ReadingAnswer::Got(Reading::SunIsUp, behind);
-    }
-    ReadingAnswer::No(tokens::cursor::refuse(21, i))
+    SunReading::IsUp
 }
 
-// A property of the event.
-fn event_property(i: usize, behind: Cursor, w: &[u8]) -> ReadingAnswer
-    ensures { λ r. ⌜ r ≡ toReading (eventProperty i (behind .index) (now (w .entry))) ⌝ }
+fn event_property(n: u32) -> EventReading
+    ensures { λ r. ⌜ r ≡ eventProperty n ⌝ }
 {
-    if text::part::same(w, b"value") {
-        return ReadingAnswer::Got(Reading::EventValue, behind);
+    if n == 0 {
+        return EventReading::Value;
     }
-    if text::part::same(w, b"device") {
-        return ReadingAnswer::Got(Reading::EventDevice, behind);
+    if n == 1 {
+        return EventReading::Device;
     }
-    if text::part::same(w, b"instance") {
-        return ReadingAnswer::Got(Reading::EventInstance, behind);
+    if n == 2 {
+        return EventReading::Instance;
     }
-    if text::part::same(w, b"option") {
-        return ReadingAnswer::Got(Reading::EventOption, behind);
-    }
-    ReadingAnswer::No(tokens::cursor::refuse(21, i))
-}
-
-// The point and the property of each family.
-fn lamp_point(c: Cursor, text: &[u8], words: &[u32], lamp: Ref) -> ReadingAnswer
-    ensures { λ r. ⌜ r ≡ toReading (propertyAt (tokens (now (text .entry)) (now (words .entry))) (lampProperty lamp) (c .index)) ⌝ }
-{
-    let property = words::property_word(c, text, words);
-    match property {
-        Named::No(refusal) => ReadingAnswer::No(refusal),
-        Named::Got(i, behind) => lamp_property(
-            i,
-            behind,
-            tokens::record::bytes(text, words, i),
-            lamp,
-        ),
-    }
-}
-
-fn group_point(c: Cursor, text: &[u8], words: &[u32], group: Ref) -> ReadingAnswer
-    ensures { λ r. ⌜ r ≡ toReading (propertyAt (tokens (now (text .entry)) (now (words .entry))) (groupProperty group) (c .index)) ⌝ }
-{
-    let property = words::property_word(c, text, words);
-    match property {
-        Named::No(refusal) => ReadingAnswer::No(refusal),
-        Named::Got(i, behind) => group_property(
-            i,
-            behind,
-            tokens::record::bytes(text, words, i),
-            group,
-        ),
-    }
-}
-
-fn input_point(c: Cursor, text: &[u8], words: &[u32], input: InputRef) -> ReadingAnswer
-    ensures { λ r. ⌜ r ≡ toReading (propertyAt (tokens (now (text .entry)) (now (words .entry))) (inputProperty input) (c .index)) ⌝ }
-{
-    let property = words::property_word(c, text, words);
-    match property {
-        Named::No(refusal) => ReadingAnswer::No(refusal),
-        Named::Got(i, behind) => input_property(
-            i,
-            behind,
-            tokens::record::bytes(text, words, i),
-            input,
-        ),
-    }
-}
-
-fn time_reading(c: Cursor, text: &[u8], words: &[u32]) -> ReadingAnswer
-    ensures { λ r. ⌜ r ≡ toReading (propertyAt (tokens (now (text .entry)) (now (words .entry))) timeProperty (c .index)) ⌝ }
-{
-    let property = words::property_word(c, text, words);
-    match property {
-        Named::No(refusal) => ReadingAnswer::No(refusal),
-        Named::Got(i, behind) => time_property(i, behind, tokens::record::bytes(text, words, i)),
-    }
-}
-
-fn sun_reading(c: Cursor, text: &[u8], words: &[u32]) -> ReadingAnswer
-    ensures { λ r. ⌜ r ≡ toReading (propertyAt (tokens (now (text .entry)) (now (words .entry))) sunProperty (c .index)) ⌝ }
-{
-    let property = words::property_word(c, text, words);
-    match property {
-        Named::No(refusal) => ReadingAnswer::No(refusal),
-        Named::Got(i, behind) => sun_property(i, behind, tokens::record::bytes(text, words, i)),
-    }
-}
-
-fn event_reading(c: Cursor, text: &[u8], words: &[u32]) -> ReadingAnswer
-    ensures { λ r. ⌜ r ≡ toReading (propertyAt (tokens (now (text .entry)) (now (words .entry))) eventProperty (c .index)) ⌝ }
-{
-    let property = words::property_word(c, text, words);
-    match property {
-        Named::No(refusal) => ReadingAnswer::No(refusal),
-        Named::Got(i, behind) => event_property(i, behind, tokens::record::bytes(text, words, i)),
-    }
+    EventReading::Option
 }
 
 fn lamp_reading(
@@ -258,10 +133,19 @@ fn lamp_reading(
 ) -> ReadingAnswer
     ensures { λ r. ⌜ r ≡ toReading (lampReading (tokens (now (text .entry)) (now (words .entry))) (viewOf settings (now (s .entry))) (c .index)) ⌝ }
 {
-    let lamp = refs::lamp_ref(c, text, words, s, settings);
-    match lamp {
-        RefAnswer::No(refusal) => ReadingAnswer::No(refusal),
-        RefAnswer::Got(lamp, behind) => lamp_point(behind, text, words, lamp),
+    let found = refs::lamp_ref(c, text, words, s, settings);
+    match found {
+        RefAnswer::No(refusal) => return ReadingAnswer::No(refusal),
+        RefAnswer::Got(of, next) => {
+            let property = next.expect_point_choice(text, words, b"level cct is_on last_level");
+            match property {
+                Taken::No(refusal) => return ReadingAnswer::No(refusal),
+                Taken::Got(n, behind) => return ReadingAnswer::Got(
+                    Reading::Lamp(of, lamp_property(n)),
+                    behind,
+                ),
+            }
+        }
     }
 }
 
@@ -274,10 +158,19 @@ fn group_reading(
 ) -> ReadingAnswer
     ensures { λ r. ⌜ r ≡ toReading (groupReading (tokens (now (text .entry)) (now (words .entry))) (viewOf settings (now (s .entry))) (c .index)) ⌝ }
 {
-    let group = refs::group_ref(c, text, words, s, settings);
-    match group {
-        RefAnswer::No(refusal) => ReadingAnswer::No(refusal),
-        RefAnswer::Got(group, behind) => group_point(behind, text, words, group),
+    let found = refs::group_ref(c, text, words, s, settings);
+    match found {
+        RefAnswer::No(refusal) => return ReadingAnswer::No(refusal),
+        RefAnswer::Got(of, next) => {
+            let property = next.expect_point_choice(text, words, b"any_on all_off member_count");
+            match property {
+                Taken::No(refusal) => return ReadingAnswer::No(refusal),
+                Taken::Got(n, behind) => return ReadingAnswer::Got(
+                    Reading::Group(of, group_property(n)),
+                    behind,
+                ),
+            }
+        }
     }
 }
 
@@ -290,10 +183,56 @@ fn input_reading(
 ) -> ReadingAnswer
     ensures { λ r. ⌜ r ≡ toReading (inputReading (tokens (now (text .entry)) (now (words .entry))) (viewOf settings (now (s .entry))) (capacity (now (words .entry))) (c .index)) ⌝ }
 {
-    let input = args::input_ref(c, text, words, s, settings);
-    match input {
-        InputAnswer::No(refusal) => ReadingAnswer::No(refusal),
-        InputAnswer::Got(input, behind) => input_point(behind, text, words, input),
+    let found = args::input_ref(c, text, words, s, settings);
+    match found {
+        InputAnswer::No(refusal) => return ReadingAnswer::No(refusal),
+        InputAnswer::Got(of, next) => {
+            let property = next.expect_point_choice(
+                text,
+                words,
+                b"occupied light position last_event_age",
+            );
+            match property {
+                Taken::No(refusal) => return ReadingAnswer::No(refusal),
+                Taken::Got(n, behind) => return ReadingAnswer::Got(
+                    Reading::Input(of, input_property(n)),
+                    behind,
+                ),
+            }
+        }
+    }
+}
+
+fn time_reading(c: Cursor, text: &[u8], words: &[u32]) -> ReadingAnswer
+    ensures { λ r. ⌜ r ≡ toReading (timeReading (tokens (now (text .entry)) (now (words .entry))) (c .index)) ⌝ }
+{
+    let property = c.expect_point_choice(text, words, b"now hour minute weekday");
+    match property {
+        Taken::No(refusal) => return ReadingAnswer::No(refusal),
+        Taken::Got(n, behind) => return ReadingAnswer::Got(Reading::Time(time_property(n)), behind),
+    }
+}
+
+fn sun_reading(c: Cursor, text: &[u8], words: &[u32]) -> ReadingAnswer
+    ensures { λ r. ⌜ r ≡ toReading (sunReading (tokens (now (text .entry)) (now (words .entry))) (c .index)) ⌝ }
+{
+    let property = c.expect_point_choice(text, words, b"rise set is_up");
+    match property {
+        Taken::No(refusal) => return ReadingAnswer::No(refusal),
+        Taken::Got(n, behind) => return ReadingAnswer::Got(Reading::Sun(sun_property(n)), behind),
+    }
+}
+
+fn event_reading(c: Cursor, text: &[u8], words: &[u32]) -> ReadingAnswer
+    ensures { λ r. ⌜ r ≡ toReading (eventReading (tokens (now (text .entry)) (now (words .entry))) (c .index)) ⌝ }
+{
+    let property = c.expect_point_choice(text, words, b"value device instance option");
+    match property {
+        Taken::No(refusal) => return ReadingAnswer::No(refusal),
+        Taken::Got(n, behind) => return ReadingAnswer::Got(
+            Reading::Event(event_property(n)),
+            behind,
+        ),
     }
 }
 
@@ -302,72 +241,44 @@ fn var_reading(c: Cursor, text: &[u8], words: &[u32]) -> ReadingAnswer
 {
     let name = refs::quoted_name(c, text, words);
     match name {
-        Named::No(refusal) => ReadingAnswer::No(refusal),
-        Named::Got(i, behind) => ReadingAnswer::Got(Reading::Var(name::range(words, i)), behind),
+        IndexAnswer::No(refusal) => return ReadingAnswer::No(refusal),
+        IndexAnswer::Got(i, behind) => return ReadingAnswer::Got(
+            Reading::Var(name::range(words, i)),
+            behind,
+        ),
     }
 }
 
-// The reading with the first word w at the token i; another word is refused with 20.
+// The reading with the n-th first word.
 fn reading_by(
-    i: usize,
+    n: u32,
     behind: Cursor,
-    w: &[u8],
     text: &[u8],
     words: &[u32],
     s: &[u8],
     settings: Settings,
 ) -> ReadingAnswer
-    ensures { λ r. ⌜ r ≡ toReading (readingBy (tokens (now (text .entry)) (now (words .entry))) (viewOf settings (now (s .entry))) (rangeOf (now (words .entry))) (capacity (now (words .entry))) i (behind .index) (now (w .entry))) ⌝ }
+    ensures { λ r. ⌜ r ≡ toReading (readingBy (tokens (now (text .entry)) (now (words .entry))) (viewOf settings (now (s .entry))) (rangeOf (now (words .entry))) (capacity (now (words .entry))) n (behind .index)) ⌝ }
 {
-    if text::part::same(w, b"lamp") {
-        return lamp_reading(behind, text, words, s, settings);
+    match n {
+        0 => return lamp_reading(behind, text, words, s, settings),
+        1 => return group_reading(behind, text, words, s, settings),
+        2 => return input_reading(behind, text, words, s, settings),
+        3 => return time_reading(behind, text, words),
+        4 => return sun_reading(behind, text, words),
+        5 => return event_reading(behind, text, words),
+        _ => return var_reading(behind, text, words),
     }
-    if text::part::same(w, b"group") {
-        return group_reading(behind, text, words, s, settings);
-    }
-    if text::part::same(w, b"input") {
-        return input_reading(behind, text, words, s, settings);
-    }
-    plain_reading(i, behind, w, text, words)
 }
 
-// The readings that need no sheet.
-fn plain_reading(i: usize, behind: Cursor, w: &[u8], text: &[u8], words: &[u32]) -> ReadingAnswer
-    ensures { λ r. ⌜ r ≡ toReading (plainReading (tokens (now (text .entry)) (now (words .entry))) (rangeOf (now (words .entry))) i (behind .index) (now (w .entry))) ⌝ }
-{
-    if text::part::same(w, b"time") {
-        return time_reading(behind, text, words);
-    }
-    if text::part::same(w, b"sun") {
-        return sun_reading(behind, text, words);
-    }
-    if text::part::same(w, b"event") {
-        return event_reading(behind, text, words);
-    }
-    if text::part::same(w, b"var") {
-        return var_reading(behind, text, words);
-    }
-    ReadingAnswer::No(tokens::cursor::refuse(20, i))
-}
-
-// A reading: any word, which must begin one.
-pub fn reading_at(
-    c: Cursor,
-    text: &[u8],
-    words: &[u32],
-    s: &[u8],
-    settings: Settings,
-) -> ReadingAnswer
+// A reading: any word, which must begin one; else 20.
+pub fn reading(c: Cursor, text: &[u8], words: &[u32], s: &[u8], settings: Settings) -> ReadingAnswer
     ensures { λ r. ⌜ r ≡ toReading (readingAt (tokens (now (text .entry)) (now (words .entry))) (viewOf settings (now (s .entry))) (rangeOf (now (words .entry))) (capacity (now (words .entry))) (c .index)) ⌝ }
 {
-    let i = c.index;
-    let word = c.expect(text, words, 1);
-    match word {
-        Taken::No(refusal) => ReadingAnswer::No(refusal),
-        Taken::Got(_, behind) => {
-            let w = tokens::record::bytes(text, words, i);
-            reading_by(i, behind, w, text, words, s, settings)
-        }
+    let family = c.expect_choice(text, words, b"lamp group input time sun event var", 20);
+    match family {
+        Taken::No(refusal) => return ReadingAnswer::No(refusal),
+        Taken::Got(n, behind) => return reading_by(n, behind, text, words, s, settings),
     }
 }
 
@@ -375,7 +286,7 @@ pub fn reading_at(
 fn literal_at(c: Cursor, text: &[u8], words: &[u32], minus: bool) -> ValueAnswer
     ensures { λ r. ⌜ r ≡ toValue (literalAt (tokens (now (text .entry)) (now (words .entry))) minus (c .index)) ⌝ }
 {
-    let number = c.expect(text, words, 3);
+    let number = c.expect(text, words, kind::INTEGER);
     match number {
         Taken::No(refusal) => ValueAnswer::No(refusal),
         Taken::Got(n, behind) => ValueAnswer::Got(
@@ -389,11 +300,14 @@ fn literal_at(c: Cursor, text: &[u8], words: &[u32], minus: bool) -> ValueAnswer
 fn delta_at(c: Cursor, text: &[u8], words: &[u32], reading: Reading, minus: bool) -> ValueAnswer
     ensures { λ r. ⌜ r ≡ toValue (deltaAt (tokens (now (text .entry)) (now (words .entry))) reading minus (c .index)) ⌝ }
 {
-    let number = c.expect(text, words, 3);
+    let number = c.expect(text, words, kind::INTEGER);
     match number {
         Taken::No(refusal) => ValueAnswer::No(refusal),
         Taken::Got(n, behind) => {
-            ValueAnswer::Got(Value::Offset(reading, words::signed_by(minus, n)), behind)
+            ValueAnswer::Got(
+                Value::Reads(reading, Delta::Is(words::signed_by(minus, n))),
+                behind,
+            )
         }
     }
 }
@@ -402,21 +316,21 @@ fn delta_at(c: Cursor, text: &[u8], words: &[u32], reading: Reading, minus: bool
 fn with_delta(c: Cursor, text: &[u8], words: &[u32], reading: Reading) -> ValueAnswer
     ensures { λ r. ⌜ r ≡ toValue (withDelta (tokens (now (text .entry)) (now (words .entry))) reading (c .index)) ⌝ }
 {
-    let plus = c.accept(text, words, 21);
+    let plus = c.accept(text, words, kind::PLUS);
     if let Accepted::Yes(behind) = plus {
         return delta_at(behind, text, words, reading, false);
     }
-    let minus = c.accept(text, words, 22);
+    let minus = c.accept(text, words, kind::MINUS);
     if let Accepted::Yes(behind) = minus {
         return delta_at(behind, text, words, reading, true);
     }
-    ValueAnswer::Got(Value::Reads(reading), c)
+    ValueAnswer::Got(Value::Reads(reading, Delta::Absent), c)
 }
 
 fn read_value(c: Cursor, text: &[u8], words: &[u32], s: &[u8], settings: Settings) -> ValueAnswer
     ensures { λ r. ⌜ r ≡ toValue (readValue (tokens (now (text .entry)) (now (words .entry))) (viewOf settings (now (s .entry))) (rangeOf (now (words .entry))) (capacity (now (words .entry))) (c .index)) ⌝ }
 {
-    let reading = reading_at(c, text, words, s, settings);
+    let reading = reading(c, text, words, s, settings);
     match reading {
         ReadingAnswer::No(refusal) => ValueAnswer::No(refusal),
         ReadingAnswer::Got(reading, behind) => with_delta(behind, text, words, reading),
@@ -433,15 +347,15 @@ pub fn value_expr(
 ) -> ValueAnswer
     ensures { λ r. ⌜ r ≡ toValue (valueAt (tokens (now (text .entry)) (now (words .entry))) (viewOf settings (now (s .entry))) (rangeOf (now (words .entry))) (capacity (now (words .entry))) (c .index)) ⌝ }
 {
-    let plus = c.accept(text, words, 21);
+    let plus = c.accept(text, words, kind::PLUS);
     if let Accepted::Yes(behind) = plus {
         return literal_at(behind, text, words, false);
     }
-    let minus = c.accept(text, words, 22);
+    let minus = c.accept(text, words, kind::MINUS);
     if let Accepted::Yes(behind) = minus {
         return literal_at(behind, text, words, true);
     }
-    if c.peek_is(text, words, 3) {
+    if c.peek_is(text, words, kind::INTEGER) {
         return literal_at(c, text, words, false);
     }
     read_value(c, text, words, s, settings)

@@ -1,11 +1,7 @@
-// A name or other string in a value: the range of its bytes in the rule text, inside the quotes.
+// A name or other string in a value.
+use model::Name;
 ghost use mathlib.Core.Path.{_≡_};
-ghost use Rattle.sections.specs.Range.{rangeOf};
-
-pub struct Name {
-    pub start: u32,
-    pub length: u32,
-}
+ghost use Rattle.language.specs.Range.{rangeOf};
 
 // The range of the token i.
 pub fn range(words: &[u32], i: usize) -> Name

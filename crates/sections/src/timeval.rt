@@ -1,26 +1,21 @@
 // Times of day and solar events, ported from timeval.rs.
 use crate::words;
-use crate::words::PairAnswer;
+use model::SolarEvent;
+use model::TimeBound;
 use tokens::cursor::Accepted;
 use tokens::cursor::Cursor;
 use tokens::cursor::Refusal;
 use tokens::cursor::Taken;
+use tokens::kind;
 ghost use mathlib.Core.Path.{_≡_};
-ghost use Rattle.text.specs.Choice.{pick};
 ghost use Rattle.tokens.specs.Cursor.{tokens};
-ghost use Rattle.sections.specs.declared.timeval.SolarEvent.the-variants.{Sunrise, Sunset};
-ghost use Rattle.sections.specs.Timeval.{mostOffset, offsetBound, offsetAt, withOffset, solarAt, timeBound, toBound};
+ghost use Rattle.language.specs.Timeval.{mostOffset, offsetBound, offsetAt, withOffset, solarEvent, solarAt, timeBound};
+ghost use Rattle.sections.specs.Answers.{toBound};
 
-pub enum SolarEvent {
-    Sunrise,
-    Sunset,
-}
+// The longest offset behind a solar event and before it, in milliseconds: 32 signed bits.
+const MOST_LATER: u32 = 2147483647;
 
-// A time of day in minutes since midnight, or a solar event with an offset in milliseconds.
-pub enum TimeBound {
-    Clock(u32),
-    Solar(SolarEvent, i32),
-}
+const MOST_EARLIER: u32 = 2147483648;
 
 pub enum BoundAnswer {
     Got(TimeBound, Cursor),
@@ -32,9 +27,9 @@ fn most_offset(minus: bool) -> u32
     ensures { λ r. ⌜ r ≡ mostOffset minus ⌝ }
 {
     if minus {
-        return 2147483648;
+        return MOST_EARLIER;
     }
-    2147483647
+    MOST_LATER
 }
 
 // A solar event with an offset: signed in 64 bits, then narrowed. Too long a duration, at the token i, is refused with 36.
@@ -53,7 +48,7 @@ fn offset_at(c: Cursor, text: &[u8], words: &[u32], event: SolarEvent, minus: bo
     ensures { λ r. ⌜ r ≡ toBound (offsetAt (tokens (now (text .entry)) (now (words .entry))) event minus (c .index)) ⌝ }
 {
     let i = c.index;
-    let duration = c.expect(text, words, 5);
+    let duration = c.expect(text, words, kind::DURATION);
     match duration {
         Taken::No(refusal) => BoundAnswer::No(refusal),
         Taken::Got(ms, behind) => offset_bound(event, minus, i, ms, behind),
@@ -64,21 +59,22 @@ fn offset_at(c: Cursor, text: &[u8], words: &[u32], event: SolarEvent, minus: bo
 fn with_offset(c: Cursor, text: &[u8], words: &[u32], event: SolarEvent) -> BoundAnswer
     ensures { λ r. ⌜ r ≡ toBound (withOffset (tokens (now (text .entry)) (now (words .entry))) event (c .index)) ⌝ }
 {
-    let plus = c.accept(text, words, 21);
+    let plus = c.accept(text, words, kind::PLUS);
     if let Accepted::Yes(behind) = plus {
         return offset_at(behind, text, words, event, false);
     }
-    let minus = c.accept(text, words, 22);
+    let minus = c.accept(text, words, kind::MINUS);
     if let Accepted::Yes(behind) = minus {
         return offset_at(behind, text, words, event, true);
     }
     BoundAnswer::Got(TimeBound::Solar(event, 0), c)
 }
 
-fn solar_event(rise: bool) -> SolarEvent
-    ensures { λ r. ⌜ r ≡ pick rise Sunrise Sunset ⌝ }
+// The event with the n-th word.
+fn solar_event(n: u32) -> SolarEvent
+    ensures { λ r. ⌜ r ≡ solarEvent n ⌝ }
 {
-    if rise {
+    if n == 0 {
         return SolarEvent::Sunrise;
     }
     SolarEvent::Sunset
@@ -88,10 +84,10 @@ fn solar_event(rise: bool) -> SolarEvent
 fn solar_with_offset(c: Cursor, text: &[u8], words: &[u32]) -> BoundAnswer
     ensures { λ r. ⌜ r ≡ toBound (solarAt (tokens (now (text .entry)) (now (words .entry))) (c .index)) ⌝ }
 {
-    let event = words::pair(c, text, words, b"sunrise", b"sunset");
+    let event = c.expect_choice(text, words, b"sunrise sunset", 21);
     match event {
-        PairAnswer::No(refusal) => BoundAnswer::No(refusal),
-        PairAnswer::Got(rise, behind) => with_offset(behind, text, words, solar_event(rise)),
+        Taken::No(refusal) => BoundAnswer::No(refusal),
+        Taken::Got(n, behind) => with_offset(behind, text, words, solar_event(n)),
     }
 }
 
@@ -99,8 +95,8 @@ fn solar_with_offset(c: Cursor, text: &[u8], words: &[u32]) -> BoundAnswer
 pub fn time_bound(c: Cursor, text: &[u8], words: &[u32]) -> BoundAnswer
     ensures { λ r. ⌜ r ≡ toBound (timeBound (tokens (now (text .entry)) (now (words .entry))) (c .index)) ⌝ }
 {
-    if c.peek_is(text, words, 4) {
-        let clock = c.expect(text, words, 4);
+    if c.peek_is(text, words, kind::TIME) {
+        let clock = c.expect(text, words, kind::TIME);
         return match clock {
             Taken::No(refusal) => BoundAnswer::No(refusal),
             Taken::Got(m, behind) => BoundAnswer::Got(TimeBound::Clock(m), behind),

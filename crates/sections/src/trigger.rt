@@ -1,116 +1,51 @@
 // Triggers, ported from trigger.rs.
 use crate::name;
-use crate::name::Name;
 use crate::timeval;
 use crate::timeval::BoundAnswer;
-use crate::timeval::SolarEvent;
-use crate::timeval::TimeBound;
 use crate::words;
-use crate::words::PairAnswer;
+use model::Aggregate;
+use model::Crossing;
+use model::Event;
+use model::InputRef;
+use model::Occupancy;
+use model::Online;
+use model::Override;
+use model::Power;
+use model::Ref;
+use model::Selector;
+use model::TimeBound;
+use model::Trigger;
 use references::args;
 use references::args::InputAnswer;
-use references::args::InputRef;
-use references::args::Selector;
 use references::args::SelectorAnswer;
 use references::refs;
-use references::refs::LightTarget;
-use references::refs::Named;
-use references::refs::Ref;
+use references::refs::IndexAnswer;
 use references::refs::RefAnswer;
 use references::refs::ScopeAnswer;
 use references::refs::TargetAnswer;
-use references::sheet::Settings;
+use sheet::Settings;
 use tokens::cursor::Accepted;
 use tokens::cursor::Cursor;
 use tokens::cursor::Refusal;
 use tokens::cursor::Taken;
+use tokens::kind;
 ghost use mathlib.Core.Path.{_≡_};
-ghost use Rattle.text.specs.Choice.{pick};
 ghost use Rattle.tokens.specs.Cursor.{tokens};
 ghost use Rattle.tokens.specs.Record.{capacity};
-ghost use Rattle.references.specs.Sheet.{viewOf};
-ghost use Rattle.sections.specs.Range.{rangeOf};
-ghost use Rattle.sections.specs.declared.trigger.Power.the-variants.{On, Off};
-ghost use Rattle.sections.specs.declared.trigger.Crossing.the-variants.{Above, Below};
-ghost use Rattle.sections.specs.declared.trigger.Occupancy.the-variants.{Occupied, Vacant};
-ghost use Rattle.sections.specs.declared.trigger.Aggregate.the-variants.{AnyOn, AllOff};
-ghost use Rattle.sections.specs.declared.trigger.Override.the-variants.{Starts, Clears};
-ghost use Rattle.sections.specs.Trigger.{timerTrigger, ruleTrigger, controllerTrigger, httpTrigger, everyTrigger, atBound, atTrigger, sceneClosed, sceneTrigger, deviceChange, deviceTrigger, groupChange, groupTrigger, overrideFor, hclTrigger, levelCross, lampLevel, lampChange, lampTrigger, manualConfig, inputDeviceChange, inputDeviceTrigger, rawData, rawEvent, otherEvent, eventBy, eventAt, inputEvent, inputBecomes, lightCross, positionChange, propertyTrigger, pointTrigger, inputChange, inputTrigger, plainTrigger, laterTrigger, triggerBy, triggerAt, toEvent, toTrigger};
+ghost use Rattle.sheet.specs.View.{viewOf};
+ghost use Rattle.language.specs.Range.{rangeOf};
+ghost use Rattle.language.specs.Trigger.{powerOf, crossingOf, occupancyOf, aggregateOf, onlineOf, overrideOf, timerTrigger, ruleTrigger, controllerChange, controllerTrigger, httpTrigger, everyTrigger, atBound, atTrigger, sceneClosed, sceneTrigger, deviceTrigger, groupTrigger, hclTrigger, levelCross, lampChange, lampTrigger, inputDeviceChange, inputDeviceTrigger, rawData, rawEvent, eventOf, eventAt, inputEvent, inputBecomes, lightCross, positionChange, propertyTrigger, pointTrigger, inputChange, inputTrigger, triggerBy, triggerAt};
+ghost use Rattle.sections.specs.Answers.{toEvent, toTrigger};
 
-pub enum Event {
-    Press,
-    Release,
-    ShortPress,
-    DoublePress,
-    LongPressStart,
-    LongPressRepeat,
-    LongPressStop,
-    ButtonFree,
-    ButtonStuck,
-    Movement,
-    NoMovement,
-    AnyEvent,
-    Raw(u32),
-}
+// The shortest period, in milliseconds.
+const LEAST_PERIOD: u32 = 1000;
 
-pub enum Occupancy {
-    Occupied,
-    Vacant,
-}
+// The highest scene, level and event information.
+const MAX_SCENE: u32 = 15;
 
-pub enum Crossing {
-    Above,
-    Below,
-}
+const MAX_LEVEL: u32 = 254;
 
-pub enum Power {
-    On,
-    Off,
-}
-
-pub enum Aggregate {
-    AnyOn,
-    AllOff,
-}
-
-pub enum Online {
-    GoesOffline,
-    ComesOnline,
-}
-
-pub enum Override {
-    Starts,
-    Clears,
-}
-
-pub enum Trigger {
-    InputEvent(Selector, Event),
-    InputOccupancy(InputRef, Occupancy),
-    // the threshold is 0 to 1023
-    InputLightCross(InputRef, Crossing, u32),
-    InputPositionChange(InputRef),
-    InputDevicePowerCycled(Ref),
-    InputDeviceManualConfigChanged(Ref),
-    // in minutes since midnight
-    AtTime(u32),
-    // with an offset in milliseconds
-    AtSolar(SolarEvent, i32),
-    // in milliseconds
-    Every(u32),
-    LampTurns(Ref, Power),
-    // the threshold is 0 to 254
-    LampLevelCross(Ref, Crossing, u32),
-    GroupBecomes(Ref, Aggregate),
-    // adapter and scene
-    SceneRecalled(u32, u32),
-    DeviceOnline(Ref, Online),
-    HclOverride(LightTarget, Override),
-    TimerFires(Name),
-    ControllerStarts,
-    ControllerBecomesActive,
-    RuleFails(Name),
-    HttpTrigger,
-}
+const MAX_EVENT_INFORMATION: u32 = 1023;
 
 pub enum EventAnswer {
     Got(Event, Cursor),
@@ -122,50 +57,56 @@ pub enum TriggerAnswer {
     No(Refusal),
 }
 
-// On, or else off.
-pub fn power_by(on: bool) -> Power
-    ensures { λ r. ⌜ r ≡ pick on On Off ⌝ }
+// What the n-th word of a pair stands for, here and below.
+pub fn power_by(n: u32) -> Power
+    ensures { λ r. ⌜ r ≡ powerOf n ⌝ }
 {
-    if on {
+    if n == 0 {
         return Power::On;
     }
     Power::Off
 }
 
-// Above, or else below.
-pub fn crossing_by(above: bool) -> Crossing
-    ensures { λ r. ⌜ r ≡ pick above Above Below ⌝ }
+pub fn crossing_by(n: u32) -> Crossing
+    ensures { λ r. ⌜ r ≡ crossingOf n ⌝ }
 {
-    if above {
+    if n == 0 {
         return Crossing::Above;
     }
     Crossing::Below
 }
 
-// Occupied, or else vacant.
-pub fn occupancy_by(occupied: bool) -> Occupancy
-    ensures { λ r. ⌜ r ≡ pick occupied Occupied Vacant ⌝ }
+pub fn occupancy_by(n: u32) -> Occupancy
+    ensures { λ r. ⌜ r ≡ occupancyOf n ⌝ }
 {
-    if occupied {
+    if n == 0 {
         return Occupancy::Occupied;
     }
     Occupancy::Vacant
 }
 
-// Any lamp on, or else all off.
-pub fn aggregate_by(any: bool) -> Aggregate
-    ensures { λ r. ⌜ r ≡ pick any AnyOn AllOff ⌝ }
+pub fn aggregate_by(n: u32) -> Aggregate
+    ensures { λ r. ⌜ r ≡ aggregateOf n ⌝ }
 {
-    if any {
+    if n == 0 {
         return Aggregate::AnyOn;
     }
     Aggregate::AllOff
 }
 
-fn override_by(starts: bool) -> Override
-    ensures { λ r. ⌜ r ≡ pick starts Starts Clears ⌝ }
+fn online_by(n: u32) -> Online
+    ensures { λ r. ⌜ r ≡ onlineOf n ⌝ }
 {
-    if starts {
+    if n == 0 {
+        return Online::GoesOffline;
+    }
+    Online::ComesOnline
+}
+
+fn override_by(n: u32) -> Override
+    ensures { λ r. ⌜ r ≡ overrideOf n ⌝ }
+{
+    if n == 0 {
         return Override::Starts;
     }
     Override::Clears
@@ -174,70 +115,45 @@ fn override_by(starts: bool) -> Override
 fn timer_trigger(c: Cursor, text: &[u8], words: &[u32]) -> TriggerAnswer
     ensures { λ r. ⌜ r ≡ toTrigger (timerTrigger (tokens (now (text .entry)) (now (words .entry))) (rangeOf (now (words .entry))) (c .index)) ⌝ }
 {
-    let name = refs::quoted_name(c, text, words);
+    let name = words::named_phrase(c, text, words, b"fires");
     match name {
-        Named::No(refusal) => {
-            return TriggerAnswer::No(refusal);
-        }
-        Named::Got(i, next) => {
-            let word = next.expect_kw(text, words, b"fires");
-            match word {
-                Taken::No(refusal) => {
-                    return TriggerAnswer::No(refusal);
-                }
-                Taken::Got(_, behind) => {
-                    return TriggerAnswer::Got(Trigger::TimerFires(name::range(words, i)), behind);
-                }
-            }
-        }
+        IndexAnswer::No(refusal) => return TriggerAnswer::No(refusal),
+        IndexAnswer::Got(i, behind) => return TriggerAnswer::Got(
+            Trigger::TimerFires(name::range(words, i)),
+            behind,
+        ),
     }
 }
 
 fn rule_trigger(c: Cursor, text: &[u8], words: &[u32]) -> TriggerAnswer
     ensures { λ r. ⌜ r ≡ toTrigger (ruleTrigger (tokens (now (text .entry)) (now (words .entry))) (rangeOf (now (words .entry))) (c .index)) ⌝ }
 {
-    let name = refs::quoted_name(c, text, words);
+    let name = words::named_phrase(c, text, words, b"fails");
     match name {
-        Named::No(refusal) => {
-            return TriggerAnswer::No(refusal);
-        }
-        Named::Got(i, next) => {
-            let word = next.expect_kw(text, words, b"fails");
-            match word {
-                Taken::No(refusal) => {
-                    return TriggerAnswer::No(refusal);
-                }
-                Taken::Got(_, behind) => {
-                    return TriggerAnswer::Got(Trigger::RuleFails(name::range(words, i)), behind);
-                }
-            }
-        }
+        IndexAnswer::No(refusal) => return TriggerAnswer::No(refusal),
+        IndexAnswer::Got(i, behind) => return TriggerAnswer::Got(
+            Trigger::RuleFails(name::range(words, i)),
+            behind,
+        ),
     }
+}
+
+fn controller_change(n: u32) -> Trigger
+    ensures { λ r. ⌜ r ≡ controllerChange n ⌝ }
+{
+    if n == 0 {
+        return Trigger::ControllerStarts;
+    }
+    Trigger::ControllerBecomesActive
 }
 
 fn controller_trigger(c: Cursor, text: &[u8], words: &[u32]) -> TriggerAnswer
     ensures { λ r. ⌜ r ≡ toTrigger (controllerTrigger (tokens (now (text .entry)) (now (words .entry))) (c .index)) ⌝ }
 {
-    let starts = c.accept_kw(text, words, b"starts");
-    if let Accepted::Yes(next) = starts {
-        return TriggerAnswer::Got(Trigger::ControllerStarts, next);
-    }
-    let first = c.expect_kw(text, words, b"becomes");
-    match first {
-        Taken::No(refusal) => {
-            return TriggerAnswer::No(refusal);
-        }
-        Taken::Got(_, next) => {
-            let second = next.expect_kw(text, words, b"active");
-            match second {
-                Taken::No(refusal) => {
-                    return TriggerAnswer::No(refusal);
-                }
-                Taken::Got(_, behind) => {
-                    return TriggerAnswer::Got(Trigger::ControllerBecomesActive, behind);
-                }
-            }
-        }
+    let change = c.expect_either(text, words, b"starts", b"becomes active");
+    match change {
+        Taken::No(refusal) => return TriggerAnswer::No(refusal),
+        Taken::Got(n, behind) => return TriggerAnswer::Got(controller_change(n), behind),
     }
 }
 
@@ -246,12 +162,8 @@ fn http_trigger(c: Cursor, text: &[u8], words: &[u32]) -> TriggerAnswer
 {
     let word = c.expect_kw(text, words, b"trigger");
     match word {
-        Taken::No(refusal) => {
-            return TriggerAnswer::No(refusal);
-        }
-        Taken::Got(_, behind) => {
-            return TriggerAnswer::Got(Trigger::HttpTrigger, behind);
-        }
+        Taken::No(refusal) => return TriggerAnswer::No(refusal),
+        Taken::Got(_, behind) => return TriggerAnswer::Got(Trigger::HttpTrigger, behind),
     }
 }
 
@@ -262,11 +174,9 @@ fn every_trigger(c: Cursor, text: &[u8], words: &[u32]) -> TriggerAnswer
     let i = c.index;
     let period = c.expect_duration(text, words);
     match period {
-        Taken::No(refusal) => {
-            return TriggerAnswer::No(refusal);
-        }
+        Taken::No(refusal) => return TriggerAnswer::No(refusal),
         Taken::Got(ms, behind) => {
-            if ms < 1000 {
+            if ms < LEAST_PERIOD {
                 return TriggerAnswer::No(tokens::cursor::refuse(35, i));
             }
             return TriggerAnswer::Got(Trigger::Every(ms), behind);
@@ -285,9 +195,10 @@ fn at_bound(c: Cursor, text: &[u8], words: &[u32], bound: TimeBound) -> TriggerA
             }
             return TriggerAnswer::Got(Trigger::AtTime(m), c);
         }
-        TimeBound::Solar(event, offset) => {
-            return TriggerAnswer::Got(Trigger::AtSolar(event, offset), c);
-        }
+        TimeBound::Solar(event, offset) => return TriggerAnswer::Got(
+            Trigger::AtSolar(event, offset),
+            c,
+        ),
     }
 }
 
@@ -296,12 +207,8 @@ fn at_trigger(c: Cursor, text: &[u8], words: &[u32]) -> TriggerAnswer
 {
     let bound = timeval::time_bound(c, text, words);
     match bound {
-        BoundAnswer::No(refusal) => {
-            return TriggerAnswer::No(refusal);
-        }
-        BoundAnswer::Got(bound, behind) => {
-            return at_bound(behind, text, words, bound);
-        }
+        BoundAnswer::No(refusal) => return TriggerAnswer::No(refusal),
+        BoundAnswer::Got(bound, behind) => return at_bound(behind, text, words, bound),
     }
 }
 
@@ -318,23 +225,17 @@ fn scene_closed(
 {
     let clause = refs::adapter_clause(c, text, words, s, settings);
     match clause {
-        ScopeAnswer::No(refusal) => {
-            return TriggerAnswer::No(refusal);
-        }
+        ScopeAnswer::No(refusal) => return TriggerAnswer::No(refusal),
         ScopeAnswer::Got(scope, next) => {
-            let close = next.expect(text, words, 8);
+            let close = next.expect(text, words, kind::CLOSE);
             match close {
-                Taken::No(refusal) => {
-                    return TriggerAnswer::No(refusal);
-                }
+                Taken::No(refusal) => return TriggerAnswer::No(refusal),
                 Taken::Got(_, closed) => {
                     let word = closed.expect_kw(text, words, b"recalled");
                     match word {
-                        Taken::No(refusal) => {
-                            return TriggerAnswer::No(refusal);
-                        }
+                        Taken::No(refusal) => return TriggerAnswer::No(refusal),
                         Taken::Got(_, behind) => {
-                            let adapter = refs::adapter_or(settings, scope, s);
+                            let adapter = refs::scope_or_primary(settings, scope, s);
                             return TriggerAnswer::Got(
                                 Trigger::SceneRecalled(adapter, scene),
                                 behind,
@@ -356,60 +257,14 @@ fn scene_trigger(
 ) -> TriggerAnswer
     ensures { λ r. ⌜ r ≡ toTrigger (sceneTrigger (tokens (now (text .entry)) (now (words .entry))) (viewOf settings (now (s .entry))) (c .index)) ⌝ }
 {
-    let open = c.expect(text, words, 7);
+    let open = c.expect(text, words, kind::OPEN);
     match open {
-        Taken::No(refusal) => {
-            return TriggerAnswer::No(refusal);
-        }
+        Taken::No(refusal) => return TriggerAnswer::No(refusal),
         Taken::Got(_, next) => {
-            let scene = next.expect_int_in(text, words, 0, 15);
+            let scene = next.expect_int_in(text, words, 0, MAX_SCENE);
             match scene {
-                Taken::No(refusal) => {
-                    return TriggerAnswer::No(refusal);
-                }
-                Taken::Got(n, behind) => {
-                    return scene_closed(behind, text, words, s, settings, n);
-                }
-            }
-        }
-    }
-}
-
-fn device_change(c: Cursor, text: &[u8], words: &[u32], device: Ref) -> TriggerAnswer
-    ensures { λ r. ⌜ r ≡ toTrigger (deviceChange (tokens (now (text .entry)) (now (words .entry))) device (c .index)) ⌝ }
-{
-    let goes = c.accept_kw(text, words, b"goes");
-    if let Accepted::Yes(next) = goes {
-        let word = next.expect_kw(text, words, b"offline");
-        match word {
-            Taken::No(refusal) => {
-                return TriggerAnswer::No(refusal);
-            }
-            Taken::Got(_, behind) => {
-                return TriggerAnswer::Got(
-                    Trigger::DeviceOnline(device, Online::GoesOffline),
-                    behind,
-                );
-            }
-        }
-    }
-    let first = c.expect_kw(text, words, b"comes");
-    match first {
-        Taken::No(refusal) => {
-            return TriggerAnswer::No(refusal);
-        }
-        Taken::Got(_, next) => {
-            let second = next.expect_kw(text, words, b"online");
-            match second {
-                Taken::No(refusal) => {
-                    return TriggerAnswer::No(refusal);
-                }
-                Taken::Got(_, behind) => {
-                    return TriggerAnswer::Got(
-                        Trigger::DeviceOnline(device, Online::ComesOnline),
-                        behind,
-                    );
-                }
+                Taken::No(refusal) => return TriggerAnswer::No(refusal),
+                Taken::Got(n, behind) => return scene_closed(behind, text, words, s, settings, n),
             }
         }
     }
@@ -424,37 +279,17 @@ fn device_trigger(
 ) -> TriggerAnswer
     ensures { λ r. ⌜ r ≡ toTrigger (deviceTrigger (tokens (now (text .entry)) (now (words .entry))) (viewOf settings (now (s .entry))) (c .index)) ⌝ }
 {
-    let target = refs::device_ref(c, text, words, s, settings);
-    match target {
-        RefAnswer::No(refusal) => {
-            return TriggerAnswer::No(refusal);
-        }
-        RefAnswer::Got(device, behind) => {
-            return device_change(behind, text, words, device);
-        }
-    }
-}
-
-fn group_change(c: Cursor, text: &[u8], words: &[u32], group: Ref) -> TriggerAnswer
-    ensures { λ r. ⌜ r ≡ toTrigger (groupChange (tokens (now (text .entry)) (now (words .entry))) group (c .index)) ⌝ }
-{
-    let word = c.expect_kw(text, words, b"becomes");
-    match word {
-        Taken::No(refusal) => {
-            return TriggerAnswer::No(refusal);
-        }
-        Taken::Got(_, next) => {
-            let state = words::pair(next, text, words, b"any_on", b"all_off");
-            match state {
-                PairAnswer::No(refusal) => {
-                    return TriggerAnswer::No(refusal);
-                }
-                PairAnswer::Got(any, behind) => {
-                    return TriggerAnswer::Got(
-                        Trigger::GroupBecomes(group, aggregate_by(any)),
-                        behind,
-                    );
-                }
+    let found = refs::device_ref(c, text, words, s, settings);
+    match found {
+        RefAnswer::No(refusal) => return TriggerAnswer::No(refusal),
+        RefAnswer::Got(device, next) => {
+            let change = next.expect_either(text, words, b"goes offline", b"comes online");
+            match change {
+                Taken::No(refusal) => return TriggerAnswer::No(refusal),
+                Taken::Got(n, behind) => return TriggerAnswer::Got(
+                    Trigger::DeviceOnline(device, online_by(n)),
+                    behind,
+                ),
             }
         }
     }
@@ -469,44 +304,17 @@ fn group_trigger(
 ) -> TriggerAnswer
     ensures { λ r. ⌜ r ≡ toTrigger (groupTrigger (tokens (now (text .entry)) (now (words .entry))) (viewOf settings (now (s .entry))) (c .index)) ⌝ }
 {
-    let target = refs::group_ref(c, text, words, s, settings);
-    match target {
-        RefAnswer::No(refusal) => {
-            return TriggerAnswer::No(refusal);
-        }
-        RefAnswer::Got(group, behind) => {
-            return group_change(behind, text, words, group);
-        }
-    }
-}
-
-fn override_for(
-    c: Cursor,
-    text: &[u8],
-    words: &[u32],
-    s: &[u8],
-    settings: Settings,
-    starts: bool,
-) -> TriggerAnswer
-    ensures { λ r. ⌜ r ≡ toTrigger (overrideFor (tokens (now (text .entry)) (now (words .entry))) (viewOf settings (now (s .entry))) starts (c .index)) ⌝ }
-{
-    let word = c.expect_kw(text, words, b"for");
-    match word {
-        Taken::No(refusal) => {
-            return TriggerAnswer::No(refusal);
-        }
-        Taken::Got(_, next) => {
-            let target = refs::light_target(next, text, words, s, settings);
-            match target {
-                TargetAnswer::No(refusal) => {
-                    return TriggerAnswer::No(refusal);
-                }
-                TargetAnswer::Got(light, behind) => {
-                    return TriggerAnswer::Got(
-                        Trigger::HclOverride(light, override_by(starts)),
-                        behind,
-                    );
-                }
+    let found = refs::group_ref(c, text, words, s, settings);
+    match found {
+        RefAnswer::No(refusal) => return TriggerAnswer::No(refusal),
+        RefAnswer::Got(group, next) => {
+            let state = next.expect_phrase_choice(text, words, b"becomes", b"any_on all_off");
+            match state {
+                Taken::No(refusal) => return TriggerAnswer::No(refusal),
+                Taken::Got(n, behind) => return TriggerAnswer::Got(
+                    Trigger::GroupBecomes(group, aggregate_by(n)),
+                    behind,
+                ),
             }
         }
     }
@@ -515,20 +323,17 @@ fn override_for(
 fn hcl_trigger(c: Cursor, text: &[u8], words: &[u32], s: &[u8], settings: Settings) -> TriggerAnswer
     ensures { λ r. ⌜ r ≡ toTrigger (hclTrigger (tokens (now (text .entry)) (now (words .entry))) (viewOf settings (now (s .entry))) (c .index)) ⌝ }
 {
-    let word = c.expect_kw(text, words, b"override");
-    match word {
-        Taken::No(refusal) => {
-            return TriggerAnswer::No(refusal);
-        }
-        Taken::Got(_, next) => {
-            let change = words::pair(next, text, words, b"starts", b"clears");
-            match change {
-                PairAnswer::No(refusal) => {
-                    return TriggerAnswer::No(refusal);
-                }
-                PairAnswer::Got(starts, behind) => {
-                    return override_for(behind, text, words, s, settings, starts);
-                }
+    let change = c.expect_phrase_choice(text, words, b"override", b"starts clears");
+    match change {
+        Taken::No(refusal) => return TriggerAnswer::No(refusal),
+        Taken::Got(n, next) => {
+            let target = words::target_for(next, text, words, s, settings);
+            match target {
+                TargetAnswer::No(refusal) => return TriggerAnswer::No(refusal),
+                TargetAnswer::Got(light, behind) => return TriggerAnswer::Got(
+                    Trigger::HclOverride(light, override_by(n)),
+                    behind,
+                ),
             }
         }
     }
@@ -537,51 +342,21 @@ fn hcl_trigger(c: Cursor, text: &[u8], words: &[u32], s: &[u8], settings: Settin
 fn level_cross(c: Cursor, text: &[u8], words: &[u32], lamp: Ref) -> TriggerAnswer
     ensures { λ r. ⌜ r ≡ toTrigger (levelCross (tokens (now (text .entry)) (now (words .entry))) lamp (c .index)) ⌝ }
 {
-    let direction = words::pair(c, text, words, b"above", b"below");
-    match direction {
-        PairAnswer::No(refusal) => {
-            return TriggerAnswer::No(refusal);
-        }
-        PairAnswer::Got(above, next) => {
-            let threshold = next.expect_int_in(text, words, 0, 254);
-            match threshold {
-                Taken::No(refusal) => {
-                    return TriggerAnswer::No(refusal);
-                }
-                Taken::Got(n, behind) => {
-                    return TriggerAnswer::Got(
-                        Trigger::LampLevelCross(lamp, crossing_by(above), n),
-                        behind,
-                    );
-                }
-            }
-        }
-    }
-}
-
-fn lamp_level(c: Cursor, text: &[u8], words: &[u32], lamp: Ref) -> TriggerAnswer
-    ensures { λ r. ⌜ r ≡ toTrigger (lampLevel (tokens (now (text .entry)) (now (words .entry))) lamp (c .index)) ⌝ }
-{
-    let point = c.expect(text, words, 12);
-    match point {
-        Taken::No(refusal) => {
-            return TriggerAnswer::No(refusal);
-        }
-        Taken::Got(_, pointed) => {
-            let level = pointed.expect_kw(text, words, b"level");
-            match level {
-                Taken::No(refusal) => {
-                    return TriggerAnswer::No(refusal);
-                }
-                Taken::Got(_, next) => {
-                    let crosses = next.expect_kw(text, words, b"crosses");
-                    match crosses {
-                        Taken::No(refusal) => {
-                            return TriggerAnswer::No(refusal);
-                        }
-                        Taken::Got(_, behind) => {
-                            return level_cross(behind, text, words, lamp);
-                        }
+    let level = c.expect_point_phrase(text, words, b"level crosses");
+    match level {
+        Taken::No(refusal) => return TriggerAnswer::No(refusal),
+        Taken::Got(_, crossed) => {
+            let way = crossed.expect_choice(text, words, b"above below", 21);
+            match way {
+                Taken::No(refusal) => return TriggerAnswer::No(refusal),
+                Taken::Got(n, next) => {
+                    let threshold = next.expect_int_in(text, words, 0, MAX_LEVEL);
+                    match threshold {
+                        Taken::No(refusal) => return TriggerAnswer::No(refusal),
+                        Taken::Got(level, behind) => return TriggerAnswer::Got(
+                            Trigger::LampLevelCross(lamp, crossing_by(n), level),
+                            behind,
+                        ),
                     }
                 }
             }
@@ -594,17 +369,16 @@ fn lamp_change(c: Cursor, text: &[u8], words: &[u32], lamp: Ref) -> TriggerAnswe
 {
     let turns = c.accept_kw(text, words, b"turns");
     if let Accepted::Yes(next) = turns {
-        let state = words::pair(next, text, words, b"on", b"off");
+        let state = next.expect_choice(text, words, b"on off", 21);
         match state {
-            PairAnswer::No(refusal) => {
-                return TriggerAnswer::No(refusal);
-            }
-            PairAnswer::Got(on, behind) => {
-                return TriggerAnswer::Got(Trigger::LampTurns(lamp, power_by(on)), behind);
-            }
+            Taken::No(refusal) => return TriggerAnswer::No(refusal),
+            Taken::Got(n, behind) => return TriggerAnswer::Got(
+                Trigger::LampTurns(lamp, power_by(n)),
+                behind,
+            ),
         }
     }
-    lamp_level(c, text, words, lamp)
+    level_cross(c, text, words, lamp)
 }
 
 fn lamp_trigger(
@@ -616,66 +390,20 @@ fn lamp_trigger(
 ) -> TriggerAnswer
     ensures { λ r. ⌜ r ≡ toTrigger (lampTrigger (tokens (now (text .entry)) (now (words .entry))) (viewOf settings (now (s .entry))) (c .index)) ⌝ }
 {
-    let target = refs::lamp_ref(c, text, words, s, settings);
-    match target {
-        RefAnswer::No(refusal) => {
-            return TriggerAnswer::No(refusal);
-        }
-        RefAnswer::Got(lamp, behind) => {
-            return lamp_change(behind, text, words, lamp);
-        }
+    let found = refs::lamp_ref(c, text, words, s, settings);
+    match found {
+        RefAnswer::No(refusal) => return TriggerAnswer::No(refusal),
+        RefAnswer::Got(lamp, behind) => return lamp_change(behind, text, words, lamp),
     }
 }
 
-fn manual_config(c: Cursor, text: &[u8], words: &[u32], device: Ref) -> TriggerAnswer
-    ensures { λ r. ⌜ r ≡ toTrigger (manualConfig (tokens (now (text .entry)) (now (words .entry))) device (c .index)) ⌝ }
+fn input_device_change(device: Ref, n: u32) -> Trigger
+    ensures { λ r. ⌜ r ≡ inputDeviceChange device n ⌝ }
 {
-    let manual = c.expect_kw(text, words, b"manual");
-    match manual {
-        Taken::No(refusal) => {
-            return TriggerAnswer::No(refusal);
-        }
-        Taken::Got(_, first) => {
-            let config = first.expect_kw(text, words, b"config");
-            match config {
-                Taken::No(refusal) => {
-                    return TriggerAnswer::No(refusal);
-                }
-                Taken::Got(_, next) => {
-                    let changed = next.expect_kw(text, words, b"changed");
-                    match changed {
-                        Taken::No(refusal) => {
-                            return TriggerAnswer::No(refusal);
-                        }
-                        Taken::Got(_, behind) => {
-                            return TriggerAnswer::Got(
-                                Trigger::InputDeviceManualConfigChanged(device),
-                                behind,
-                            );
-                        }
-                    }
-                }
-            }
-        }
+    if n == 0 {
+        return Trigger::InputDevicePowerCycled(device);
     }
-}
-
-fn input_device_change(c: Cursor, text: &[u8], words: &[u32], device: Ref) -> TriggerAnswer
-    ensures { λ r. ⌜ r ≡ toTrigger (inputDeviceChange (tokens (now (text .entry)) (now (words .entry))) device (c .index)) ⌝ }
-{
-    let power = c.accept_kw(text, words, b"power");
-    if let Accepted::Yes(next) = power {
-        let cycled = next.expect_kw(text, words, b"cycled");
-        match cycled {
-            Taken::No(refusal) => {
-                return TriggerAnswer::No(refusal);
-            }
-            Taken::Got(_, behind) => {
-                return TriggerAnswer::Got(Trigger::InputDevicePowerCycled(device), behind);
-            }
-        }
-    }
-    manual_config(c, text, words, device)
+    Trigger::InputDeviceManualConfigChanged(device)
 }
 
 fn input_device_trigger(
@@ -687,13 +415,18 @@ fn input_device_trigger(
 ) -> TriggerAnswer
     ensures { λ r. ⌜ r ≡ toTrigger (inputDeviceTrigger (tokens (now (text .entry)) (now (words .entry))) (viewOf settings (now (s .entry))) (c .index)) ⌝ }
 {
-    let target = refs::input_device_ref(c, text, words, s, settings);
-    match target {
-        RefAnswer::No(refusal) => {
-            return TriggerAnswer::No(refusal);
-        }
-        RefAnswer::Got(device, behind) => {
-            return input_device_change(behind, text, words, device);
+    let found = refs::input_device_ref(c, text, words, s, settings);
+    match found {
+        RefAnswer::No(refusal) => return TriggerAnswer::No(refusal),
+        RefAnswer::Got(device, next) => {
+            let change = next.expect_either(text, words, b"power cycled", b"manual config changed");
+            match change {
+                Taken::No(refusal) => return TriggerAnswer::No(refusal),
+                Taken::Got(n, behind) => return TriggerAnswer::Got(
+                    input_device_change(device, n),
+                    behind,
+                ),
+            }
         }
     }
 }
@@ -701,20 +434,14 @@ fn input_device_trigger(
 fn raw_data(c: Cursor, text: &[u8], words: &[u32]) -> EventAnswer
     ensures { λ r. ⌜ r ≡ toEvent (rawData (tokens (now (text .entry)) (now (words .entry))) (c .index)) ⌝ }
 {
-    let data = c.expect_int_in(text, words, 0, 1023);
+    let data = c.expect_int_in(text, words, 0, MAX_EVENT_INFORMATION);
     match data {
-        Taken::No(refusal) => {
-            return EventAnswer::No(refusal);
-        }
+        Taken::No(refusal) => return EventAnswer::No(refusal),
         Taken::Got(n, next) => {
-            let close = next.expect(text, words, 8);
+            let close = next.expect(text, words, kind::CLOSE);
             match close {
-                Taken::No(refusal) => {
-                    return EventAnswer::No(refusal);
-                }
-                Taken::Got(_, behind) => {
-                    return EventAnswer::Got(Event::Raw(n), behind);
-                }
+                Taken::No(refusal) => return EventAnswer::No(refusal),
+                Taken::Got(_, behind) => return EventAnswer::Got(Event::Raw(n), behind),
             }
         }
     }
@@ -723,26 +450,18 @@ fn raw_data(c: Cursor, text: &[u8], words: &[u32]) -> EventAnswer
 fn raw_event(c: Cursor, text: &[u8], words: &[u32]) -> EventAnswer
     ensures { λ r. ⌜ r ≡ toEvent (rawEvent (tokens (now (text .entry)) (now (words .entry))) (c .index)) ⌝ }
 {
-    let open = c.expect(text, words, 7);
+    let open = c.expect(text, words, kind::OPEN);
     match open {
-        Taken::No(refusal) => {
-            return EventAnswer::No(refusal);
-        }
+        Taken::No(refusal) => return EventAnswer::No(refusal),
         Taken::Got(_, opened) => {
             let data = opened.expect_kw(text, words, b"data");
             match data {
-                Taken::No(refusal) => {
-                    return EventAnswer::No(refusal);
-                }
+                Taken::No(refusal) => return EventAnswer::No(refusal),
                 Taken::Got(_, next) => {
-                    let assign = next.expect(text, words, 14);
+                    let assign = next.expect(text, words, kind::ASSIGN);
                     match assign {
-                        Taken::No(refusal) => {
-                            return EventAnswer::No(refusal);
-                        }
-                        Taken::Got(_, behind) => {
-                            return raw_data(behind, text, words);
-                        }
+                        Taken::No(refusal) => return EventAnswer::No(refusal),
+                        Taken::Got(_, behind) => return raw_data(behind, text, words),
                     }
                 }
             }
@@ -750,71 +469,63 @@ fn raw_event(c: Cursor, text: &[u8], words: &[u32]) -> EventAnswer
     }
 }
 
-// The event of the word w at the token i, of those that event_by leaves.
-fn other_event(i: usize, behind: Cursor, w: &[u8]) -> EventAnswer
-    ensures { λ r. ⌜ r ≡ toEvent (otherEvent i (behind .index) (now (w .entry))) ⌝ }
+// The event with the n-th word.
+fn event_by(n: u32) -> Event
+    ensures { λ r. ⌜ r ≡ eventOf n ⌝ }
 {
-    if text::part::same(w, b"long_press_stop") {
-        return EventAnswer::Got(Event::LongPressStop, behind);
+    if n == 0 {
+        return Event::Press;
     }
-    if text::part::same(w, b"button_free") {
-        return EventAnswer::Got(Event::ButtonFree, behind);
+    if n == 1 {
+        return Event::Release;
     }
-    if text::part::same(w, b"button_stuck") {
-        return EventAnswer::Got(Event::ButtonStuck, behind);
+    if n == 2 {
+        return Event::ShortPress;
     }
-    if text::part::same(w, b"movement") {
-        return EventAnswer::Got(Event::Movement, behind);
+    if n == 3 {
+        return Event::DoublePress;
     }
-    if text::part::same(w, b"no_movement") {
-        return EventAnswer::Got(Event::NoMovement, behind);
+    if n == 4 {
+        return Event::LongPressStart;
     }
-    if text::part::same(w, b"any_event") {
-        return EventAnswer::Got(Event::AnyEvent, behind);
+    if n == 5 {
+        return Event::LongPressRepeat;
     }
-    EventAnswer::No(tokens::cursor::refuse(21, i))
-}
-
-fn event_by(i: usize, behind: Cursor, w: &[u8]) -> EventAnswer
-    ensures { λ r. ⌜ r ≡ toEvent (eventBy i (behind .index) (now (w .entry))) ⌝ }
-{
-    if text::part::same(w, b"press") {
-        return EventAnswer::Got(Event::Press, behind);
+    if n == 6 {
+        return Event::LongPressStop;
     }
-    if text::part::same(w, b"release") {
-        return EventAnswer::Got(Event::Release, behind);
+    if n == 7 {
+        return Event::ButtonFree;
     }
-    if text::part::same(w, b"short_press") {
-        return EventAnswer::Got(Event::ShortPress, behind);
+    if n == 8 {
+        return Event::ButtonStuck;
     }
-    if text::part::same(w, b"double_press") {
-        return EventAnswer::Got(Event::DoublePress, behind);
+    if n == 9 {
+        return Event::Movement;
     }
-    if text::part::same(w, b"long_press_start") {
-        return EventAnswer::Got(Event::LongPressStart, behind);
+    if n == 10 {
+        return Event::NoMovement;
     }
-    if text::part::same(w, b"long_press_repeat") {
-        return EventAnswer::Got(Event::LongPressRepeat, behind);
-    }
-    other_event(i, behind, w)
+    Event::AnyEvent
 }
 
 // EVENT: the word of one, or `event(data=N)`. No word is refused with 20, another with 21.
 pub fn event_match(c: Cursor, text: &[u8], words: &[u32]) -> EventAnswer
     ensures { λ r. ⌜ r ≡ toEvent (eventAt (tokens (now (text .entry)) (now (words .entry))) (c .index)) ⌝ }
 {
-    let i = c.index;
-    let raw = c.accept_kw(text, words, b"event");
-    if let Accepted::Yes(next) = raw {
-        return raw_event(next, text, words);
-    }
-    let word = c.expect_ident(text, words);
+    let word = c.expect_choice(
+        text,
+        words,
+        b"press release short_press double_press long_press_start long_press_repeat long_press_stop button_free button_stuck movement no_movement any_event event",
+        21,
+    );
     match word {
-        Taken::No(refusal) => {
-            return EventAnswer::No(refusal);
-        }
-        Taken::Got(_, behind) => {
-            return event_by(i, behind, tokens::record::bytes(text, words, i));
+        Taken::No(refusal) => return EventAnswer::No(refusal),
+        Taken::Got(n, behind) => {
+            if n == 12 {
+                return raw_event(behind, text, words);
+            }
+            return EventAnswer::Got(event_by(n), behind);
         }
     }
 }
@@ -824,12 +535,11 @@ fn input_event(c: Cursor, text: &[u8], words: &[u32], selector: Selector) -> Tri
 {
     let event = event_match(c, text, words);
     match event {
-        EventAnswer::No(refusal) => {
-            return TriggerAnswer::No(refusal);
-        }
-        EventAnswer::Got(event, behind) => {
-            return TriggerAnswer::Got(Trigger::InputEvent(selector, event), behind);
-        }
+        EventAnswer::No(refusal) => return TriggerAnswer::No(refusal),
+        EventAnswer::Got(event, behind) => return TriggerAnswer::Got(
+            Trigger::InputEvent(selector, event),
+            behind,
+        ),
     }
 }
 
@@ -845,21 +555,15 @@ fn input_becomes(
 {
     let input = args::one_instance(paren, c, selector);
     match input {
-        InputAnswer::No(refusal) => {
-            return TriggerAnswer::No(refusal);
-        }
+        InputAnswer::No(refusal) => return TriggerAnswer::No(refusal),
         InputAnswer::Got(input, next) => {
-            let state = words::pair(next, text, words, b"occupied", b"vacant");
+            let state = next.expect_choice(text, words, b"occupied vacant", 21);
             match state {
-                PairAnswer::No(refusal) => {
-                    return TriggerAnswer::No(refusal);
-                }
-                PairAnswer::Got(occupied, behind) => {
-                    return TriggerAnswer::Got(
-                        Trigger::InputOccupancy(input, occupancy_by(occupied)),
-                        behind,
-                    );
-                }
+                Taken::No(refusal) => return TriggerAnswer::No(refusal),
+                Taken::Got(n, behind) => return TriggerAnswer::Got(
+                    Trigger::InputOccupancy(input, occupancy_by(n)),
+                    behind,
+                ),
             }
         }
     }
@@ -868,31 +572,17 @@ fn input_becomes(
 fn light_cross(c: Cursor, text: &[u8], words: &[u32], input: InputRef) -> TriggerAnswer
     ensures { λ r. ⌜ r ≡ toTrigger (lightCross (tokens (now (text .entry)) (now (words .entry))) input (c .index)) ⌝ }
 {
-    let crosses = c.expect_kw(text, words, b"crosses");
-    match crosses {
-        Taken::No(refusal) => {
-            return TriggerAnswer::No(refusal);
-        }
-        Taken::Got(_, crossed) => {
-            let direction = words::pair(crossed, text, words, b"above", b"below");
-            match direction {
-                PairAnswer::No(refusal) => {
-                    return TriggerAnswer::No(refusal);
-                }
-                PairAnswer::Got(above, next) => {
-                    let threshold = next.expect_int_in(text, words, 0, 1023);
-                    match threshold {
-                        Taken::No(refusal) => {
-                            return TriggerAnswer::No(refusal);
-                        }
-                        Taken::Got(n, behind) => {
-                            return TriggerAnswer::Got(
-                                Trigger::InputLightCross(input, crossing_by(above), n),
-                                behind,
-                            );
-                        }
-                    }
-                }
+    let way = c.expect_phrase_choice(text, words, b"crosses", b"above below");
+    match way {
+        Taken::No(refusal) => return TriggerAnswer::No(refusal),
+        Taken::Got(n, next) => {
+            let threshold = next.expect_int_in(text, words, 0, MAX_EVENT_INFORMATION);
+            match threshold {
+                Taken::No(refusal) => return TriggerAnswer::No(refusal),
+                Taken::Got(light, behind) => return TriggerAnswer::Got(
+                    Trigger::InputLightCross(input, crossing_by(n), light),
+                    behind,
+                ),
             }
         }
     }
@@ -903,33 +593,28 @@ fn position_change(c: Cursor, text: &[u8], words: &[u32], input: InputRef) -> Tr
 {
     let changes = c.expect_kw(text, words, b"changes");
     match changes {
-        Taken::No(refusal) => {
-            return TriggerAnswer::No(refusal);
-        }
-        Taken::Got(_, behind) => {
-            return TriggerAnswer::Got(Trigger::InputPositionChange(input), behind);
-        }
+        Taken::No(refusal) => return TriggerAnswer::No(refusal),
+        Taken::Got(_, behind) => return TriggerAnswer::Got(
+            Trigger::InputPositionChange(input),
+            behind,
+        ),
     }
 }
 
-// The property w of an instance, at the token i; another word is refused with 21.
+// The n-th property of an instance.
 fn property_trigger(
-    i: usize,
+    n: u32,
     behind: Cursor,
-    w: &[u8],
     text: &[u8],
     words: &[u32],
     input: InputRef,
 ) -> TriggerAnswer
-    ensures { λ r. ⌜ r ≡ toTrigger (propertyTrigger (tokens (now (text .entry)) (now (words .entry))) input i (behind .index) (now (w .entry))) ⌝ }
+    ensures { λ r. ⌜ r ≡ toTrigger (propertyTrigger (tokens (now (text .entry)) (now (words .entry))) input n (behind .index)) ⌝ }
 {
-    if text::part::same(w, b"light") {
+    if n == 0 {
         return light_cross(behind, text, words, input);
     }
-    if text::part::same(w, b"position") {
-        return position_change(behind, text, words, input);
-    }
-    TriggerAnswer::No(tokens::cursor::refuse(21, i))
+    position_change(behind, text, words, input)
 }
 
 fn point_trigger(
@@ -943,20 +628,12 @@ fn point_trigger(
 {
     let input = args::one_instance(paren, c, selector);
     match input {
-        InputAnswer::No(refusal) => {
-            return TriggerAnswer::No(refusal);
-        }
+        InputAnswer::No(refusal) => return TriggerAnswer::No(refusal),
         InputAnswer::Got(input, next) => {
-            let i = next.index;
-            let word = next.expect_ident(text, words);
-            match word {
-                Taken::No(refusal) => {
-                    return TriggerAnswer::No(refusal);
-                }
-                Taken::Got(_, behind) => {
-                    let w = tokens::record::bytes(text, words, i);
-                    return property_trigger(i, behind, w, text, words, input);
-                }
+            let property = next.expect_choice(text, words, b"light position", 21);
+            match property {
+                Taken::No(refusal) => return TriggerAnswer::No(refusal),
+                Taken::Got(n, behind) => return property_trigger(n, behind, text, words, input),
             }
         }
     }
@@ -980,7 +657,7 @@ fn input_change(
     if let Accepted::Yes(next) = becomes {
         return input_becomes(next, text, words, paren, selector);
     }
-    let point = c.accept(text, words, 12);
+    let point = c.accept(text, words, kind::POINT);
     if let Accepted::Yes(next) = point {
         return point_trigger(next, text, words, paren, selector);
     }
@@ -1003,92 +680,47 @@ fn input_trigger(
     }
     let source = args::input_selector(c, text, words, s, settings);
     match source {
-        SelectorAnswer::No(refusal) => {
-            return TriggerAnswer::No(refusal);
-        }
-        SelectorAnswer::Got(selector, behind) => {
-            return input_change(behind, text, words, i, selector);
-        }
+        SelectorAnswer::No(refusal) => return TriggerAnswer::No(refusal),
+        SelectorAnswer::Got(selector, behind) => return input_change(
+            behind,
+            text,
+            words,
+            i,
+            selector,
+        ),
     }
 }
 
-// The trigger with the first word w at the token i, of those that need no sheet.
-fn plain_trigger(i: usize, behind: Cursor, w: &[u8], text: &[u8], words: &[u32]) -> TriggerAnswer
-    ensures { λ r. ⌜ r ≡ toTrigger (plainTrigger (tokens (now (text .entry)) (now (words .entry))) (rangeOf (now (words .entry))) i (behind .index) (now (w .entry))) ⌝ }
-{
-    if text::part::same(w, b"timer") {
-        return timer_trigger(behind, text, words);
-    }
-    if text::part::same(w, b"rule") {
-        return rule_trigger(behind, text, words);
-    }
-    if text::part::same(w, b"controller") {
-        return controller_trigger(behind, text, words);
-    }
-    if text::part::same(w, b"http") {
-        return http_trigger(behind, text, words);
-    }
-    if text::part::same(w, b"mqtt") {
-        return TriggerAnswer::No(tokens::cursor::refuse(40, i));
-    }
-    TriggerAnswer::No(tokens::cursor::refuse(21, i))
-}
-
-// Of those that trigger_by leaves.
-fn later_trigger(
-    i: usize,
-    behind: Cursor,
-    w: &[u8],
-    text: &[u8],
-    words: &[u32],
-    s: &[u8],
-    settings: Settings,
-) -> TriggerAnswer
-    ensures { λ r. ⌜ r ≡ toTrigger (laterTrigger (tokens (now (text .entry)) (now (words .entry))) (viewOf settings (now (s .entry))) (rangeOf (now (words .entry))) i (behind .index) (now (w .entry))) ⌝ }
-{
-    if text::part::same(w, b"group") {
-        return group_trigger(behind, text, words, s, settings);
-    }
-    if text::part::same(w, b"scene") {
-        return scene_trigger(behind, text, words, s, settings);
-    }
-    if text::part::same(w, b"device") {
-        return device_trigger(behind, text, words, s, settings);
-    }
-    if text::part::same(w, b"hcl") {
-        return hcl_trigger(behind, text, words, s, settings);
-    }
-    plain_trigger(i, behind, w, text, words)
-}
-
-// Of all.
+// The trigger with the n-th first word, at the token i. The last of them, mqtt, is refused with 40.
 fn trigger_by(
     i: usize,
+    n: u32,
     behind: Cursor,
-    w: &[u8],
     text: &[u8],
     words: &[u32],
     s: &[u8],
     settings: Settings,
 ) -> TriggerAnswer
-    ensures { λ r. ⌜ r ≡ toTrigger (triggerBy (tokens (now (text .entry)) (now (words .entry))) (viewOf settings (now (s .entry))) (rangeOf (now (words .entry))) (capacity (now (words .entry))) i (behind .index) (now (w .entry))) ⌝ }
+    ensures { λ r. ⌜ r ≡ toTrigger (triggerBy (tokens (now (text .entry)) (now (words .entry))) (viewOf settings (now (s .entry))) (rangeOf (now (words .entry))) (capacity (now (words .entry))) i n (behind .index)) ⌝ }
 {
-    if text::part::same(w, b"input") {
-        return input_trigger(behind, text, words, s, settings);
+    match n {
+        0 => return input_trigger(behind, text, words, s, settings),
+        1 => return at_trigger(behind, text, words),
+        2 => return every_trigger(behind, text, words),
+        3 => return lamp_trigger(behind, text, words, s, settings),
+        4 => return group_trigger(behind, text, words, s, settings),
+        5 => return scene_trigger(behind, text, words, s, settings),
+        6 => return device_trigger(behind, text, words, s, settings),
+        7 => return hcl_trigger(behind, text, words, s, settings),
+        8 => return timer_trigger(behind, text, words),
+        9 => return controller_trigger(behind, text, words),
+        10 => return rule_trigger(behind, text, words),
+        11 => return http_trigger(behind, text, words),
+        _ => return TriggerAnswer::No(tokens::cursor::refuse(40, i)),
     }
-    if text::part::same(w, b"at") {
-        return at_trigger(behind, text, words);
-    }
-    if text::part::same(w, b"every") {
-        return every_trigger(behind, text, words);
-    }
-    if text::part::same(w, b"lamp") {
-        return lamp_trigger(behind, text, words, s, settings);
-    }
-    later_trigger(i, behind, w, text, words, s, settings)
 }
 
-// A trigger, by its first word: no word is refused with 20, another with 21, `mqtt` with 40.
+// A trigger, by its first word: no word is refused with 20, another with 21.
 pub fn trigger_at(
     c: Cursor,
     text: &[u8],
@@ -1099,14 +731,14 @@ pub fn trigger_at(
     ensures { λ r. ⌜ r ≡ toTrigger (triggerAt (tokens (now (text .entry)) (now (words .entry))) (viewOf settings (now (s .entry))) (rangeOf (now (words .entry))) (capacity (now (words .entry))) (c .index)) ⌝ }
 {
     let i = c.index;
-    let word = c.expect_ident(text, words);
+    let word = c.expect_choice(
+        text,
+        words,
+        b"input at every lamp group scene device hcl timer controller rule http mqtt",
+        21,
+    );
     match word {
-        Taken::No(refusal) => {
-            return TriggerAnswer::No(refusal);
-        }
-        Taken::Got(_, behind) => {
-            let w = tokens::record::bytes(text, words, i);
-            return trigger_by(i, behind, w, text, words, s, settings);
-        }
+        Taken::No(refusal) => return TriggerAnswer::No(refusal),
+        Taken::Got(n, behind) => return trigger_by(i, n, behind, text, words, s, settings),
     }
 }

@@ -1,63 +1,64 @@
-// Words that are taken and then compared.
-use references::refs::Named;
+// Steps that several forms share.
+use references::refs;
+use references::refs::IndexAnswer;
+use references::refs::TargetAnswer;
+use sheet::Settings;
 use tokens::cursor::Cursor;
-use tokens::cursor::Refusal;
 use tokens::cursor::Taken;
+use tokens::kind;
 ghost use mathlib.Core.Path.{_≡_};
 ghost use Rattle.tokens.specs.Cursor.{tokens};
-ghost use Rattle.references.specs.Refs.{toNamed};
-ghost use Rattle.sections.specs.Words.{pairOf, pairAt, propertyWord, toPair, signed};
+ghost use Rattle.sheet.specs.View.{viewOf};
+ghost use Rattle.references.specs.Refs.{toIndex, toTarget};
+ghost use Rattle.language.specs.Words.{namedPhrase, targetFor, propertyWord, signed};
 
-// Which word of a pair stands there: the first, or the second.
-pub enum PairAnswer {
-    Got(bool, Cursor),
-    No(Refusal),
+// Q and these words behind it: the index of the name's token.
+pub fn named_phrase(c: Cursor, text: &[u8], words: &[u32], list: &[u8]) -> IndexAnswer
+    ensures { λ r. ⌜ r ≡ toIndex (namedPhrase (tokens (now (text .entry)) (now (words .entry))) (now (list .entry)) (c .index)) ⌝ }
+{
+    let name = refs::quoted_name(c, text, words);
+    match name {
+        IndexAnswer::No(refusal) => return IndexAnswer::No(refusal),
+        IndexAnswer::Got(i, next) => {
+            let phrase = next.expect_phrase(text, words, list);
+            match phrase {
+                Taken::No(refusal) => return IndexAnswer::No(refusal),
+                Taken::Got(_, behind) => return IndexAnswer::Got(i, behind),
+            }
+        }
+    }
 }
 
-// Which word of a pair w is, at the token i; another is refused with 21.
-fn pair_of(i: usize, behind: Cursor, w: &[u8], first: &[u8], second: &[u8]) -> PairAnswer
-    ensures { λ r. ⌜ r ≡ toPair (pairOf (now (first .entry)) (now (second .entry)) (now (w .entry)) i (behind .index)) ⌝ }
+// `for` and TARGET.
+pub fn target_for(
+    c: Cursor,
+    text: &[u8],
+    words: &[u32],
+    s: &[u8],
+    settings: Settings,
+) -> TargetAnswer
+    ensures { λ r. ⌜ r ≡ toTarget (targetFor (tokens (now (text .entry)) (now (words .entry))) (viewOf settings (now (s .entry))) (c .index)) ⌝ }
 {
-    if text::part::same(w, first) {
-        return PairAnswer::Got(true, behind);
-    }
-    if text::part::same(w, second) {
-        return PairAnswer::Got(false, behind);
-    }
-    PairAnswer::No(tokens::cursor::refuse(21, i))
-}
-
-// Any word, which must be one of a pair: no word is refused with 20, another with 21.
-pub fn pair(c: Cursor, text: &[u8], words: &[u32], first: &[u8], second: &[u8]) -> PairAnswer
-    ensures { λ r. ⌜ r ≡ toPair (pairAt (tokens (now (text .entry)) (now (words .entry))) (now (first .entry)) (now (second .entry)) (c .index)) ⌝ }
-{
-    let i = c.index;
-    let word = c.expect(text, words, 1);
+    let word = c.expect_kw(text, words, b"for");
     match word {
-        Taken::No(refusal) => PairAnswer::No(refusal),
-        Taken::Got(_, behind) => pair_of(
-            i,
-            behind,
-            tokens::record::bytes(text, words, i),
-            first,
-            second,
-        ),
+        Taken::No(refusal) => return TargetAnswer::No(refusal),
+        Taken::Got(_, behind) => return refs::light_target(behind, text, words, s, settings),
     }
 }
 
 // A point and any word behind it: the word's index.
-pub fn property_word(c: Cursor, text: &[u8], words: &[u32]) -> Named
-    ensures { λ r. ⌜ r ≡ toNamed (propertyWord (tokens (now (text .entry)) (now (words .entry))) (c .index)) ⌝ }
+pub fn property_word(c: Cursor, text: &[u8], words: &[u32]) -> IndexAnswer
+    ensures { λ r. ⌜ r ≡ toIndex (propertyWord (tokens (now (text .entry)) (now (words .entry))) (c .index)) ⌝ }
 {
-    let point = c.expect(text, words, 12);
+    let point = c.expect(text, words, kind::POINT);
     match point {
-        Taken::No(refusal) => Named::No(refusal),
+        Taken::No(refusal) => IndexAnswer::No(refusal),
         Taken::Got(_, next) => {
             let i = next.index;
-            let word = next.expect(text, words, 1);
+            let word = next.expect(text, words, kind::WORD);
             match word {
-                Taken::No(refusal) => Named::No(refusal),
-                Taken::Got(_, behind) => Named::Got(i, behind),
+                Taken::No(refusal) => IndexAnswer::No(refusal),
+                Taken::Got(_, behind) => IndexAnswer::Got(i, behind),
             }
         }
     }

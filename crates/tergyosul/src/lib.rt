@@ -1,13 +1,10 @@
 // The library for C and Rust: numbers and slices only. A slice is passed as a pointer and a length.
-mod codes;
-mod flat;
-
 use tokens::lexer::Lexed;
 ghost use mathlib.Core.Path.{_≡_};
 ghost use Rattle.tokens.specs.Lex.{lexAnswer, lexWords};
-ghost use Rattle.sections.specs.Read.{readOf};
+ghost use Rattle.language.specs.Read.{readOf};
 ghost use Rattle.tergyosul.specs.Lexing.{fourFirst, lexNumber, lexFlat};
-ghost use Rattle.tergyosul.specs.Flat.{flat};
+ghost use Rattle.flat.specs.Flat.{flat};
 
 // Writes four words at the front; none where there is no room.
 fn put_four(words: &mut [u32], a: u32, b: u32, c: u32, d: u32)

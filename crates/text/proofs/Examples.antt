@@ -1,34 +1,31 @@
 -- Examples, evaluated from the definitions: those of RFC 3629, section 7, and what section 10 warns of.
 use mathlib.Core.Path.{_≡_, refl}
-use mathlib.Core.List.{List, [], _∷_, map}
+use mathlib.Core.List.{List, [], _∷_}
 use Prim.Native.Nat.{ℕ, _+_, _-_}
-use Rattle.text.specs.Utf8.{Character, chars, charsFrom, front, sized, sequenceLength, two, three, four, isTail, isSecond}
+use Rattle.text.specs.Utf8.{codes, chars, charsFrom, front, sized, sequenceLength, two, three, four, isTail, isSecond}
 use Rattle.text.specs.White.{Range, whiteSpace}
 use Rattle.text.specs.Place.{checkOf, judge, walked, after, counted}
 use Rattle.text.specs.declared.place.Checked.{Checked}
 use Rattle.text.specs.declared.place.Checked.the-variants.{WellFormed, IllFormed}
 
-codes : List ℕ → List ℕ
-codes s = map (λ (ch : Character). ch .code) (chars s 0)
-
 -- A, not identical to, Alpha, full stop
-section-7-first : codes (0x41 ∷ 0xE2 ∷ 0x89 ∷ 0xA2 ∷ 0xCE ∷ 0x91 ∷ 0x2E ∷ []) ≡ 0x0041 ∷ 0x2262 ∷ 0x0391 ∷ 0x002E ∷ []
-unfolding codes chars charsFrom front sized sequenceLength two three isTail isSecond
+section-7-first : codes (chars (0x41 ∷ 0xE2 ∷ 0x89 ∷ 0xA2 ∷ 0xCE ∷ 0x91 ∷ 0x2E ∷ []) 0) ≡ 0x0041 ∷ 0x2262 ∷ 0x0391 ∷ 0x002E ∷ []
+unfolding chars charsFrom front sized sequenceLength two three isTail isSecond
 section-7-first = refl
 
 -- the Korean word hangugeo
-section-7-second : codes (0xED ∷ 0x95 ∷ 0x9C ∷ 0xEA ∷ 0xB5 ∷ 0xAD ∷ 0xEC ∷ 0x96 ∷ 0xB4 ∷ []) ≡ 0xD55C ∷ 0xAD6D ∷ 0xC5B4 ∷ []
-unfolding codes chars charsFrom front sized sequenceLength three isTail isSecond
+section-7-second : codes (chars (0xED ∷ 0x95 ∷ 0x9C ∷ 0xEA ∷ 0xB5 ∷ 0xAD ∷ 0xEC ∷ 0x96 ∷ 0xB4 ∷ []) 0) ≡ 0xD55C ∷ 0xAD6D ∷ 0xC5B4 ∷ []
+unfolding chars charsFrom front sized sequenceLength three isTail isSecond
 section-7-second = refl
 
 -- the Japanese word nihongo
-section-7-third : codes (0xE6 ∷ 0x97 ∷ 0xA5 ∷ 0xE6 ∷ 0x9C ∷ 0xAC ∷ 0xE8 ∷ 0xAA ∷ 0x9E ∷ []) ≡ 0x65E5 ∷ 0x672C ∷ 0x8A9E ∷ []
-unfolding codes chars charsFrom front sized sequenceLength three isTail isSecond
+section-7-third : codes (chars (0xE6 ∷ 0x97 ∷ 0xA5 ∷ 0xE6 ∷ 0x9C ∷ 0xAC ∷ 0xE8 ∷ 0xAA ∷ 0x9E ∷ []) 0) ≡ 0x65E5 ∷ 0x672C ∷ 0x8A9E ∷ []
+unfolding chars charsFrom front sized sequenceLength three isTail isSecond
 section-7-third = refl
 
 -- U+233B4, with the byte order mark before it
-section-7-fourth : codes (0xEF ∷ 0xBB ∷ 0xBF ∷ 0xF0 ∷ 0xA3 ∷ 0x8E ∷ 0xB4 ∷ []) ≡ 0xFEFF ∷ 0x233B4 ∷ []
-unfolding codes chars charsFrom front sized sequenceLength three four isTail isSecond
+section-7-fourth : codes (chars (0xEF ∷ 0xBB ∷ 0xBF ∷ 0xF0 ∷ 0xA3 ∷ 0x8E ∷ 0xB4 ∷ []) 0) ≡ 0xFEFF ∷ 0x233B4 ∷ []
+unfolding chars charsFrom front sized sequenceLength three four isTail isSecond
 section-7-fourth = refl
 
 -- the overlong form of U+0000, behind é and LF: the place is counted in characters

@@ -1,4 +1,5 @@
 pub mod Tests
+pub mod AsciiLaws
 pub mod Computed
 pub mod WhiteLaws
 pub mod Utf8Laws
@@ -7,5 +8,7 @@ pub mod CharLaws
 pub mod StepLaws
 pub mod PlaceRules
 pub mod PartLaws
+pub mod FindLaws
+pub mod SplitLaws
 pub mod BlockLaws
 pub mod Examples

@@ -4,7 +4,7 @@ use mathlib.Core.Bool.{Bool, true, false}
 use Prim.Native.Nat.{ℕ, zero, suc, _+_, _-_, _<_, _≤_}
 use native.Mathlib.Omega.{arith}
 use native.Mathlib.Nat.{add-zero, zero-add}
-use mathlib.Core.List.{List, [], _∷_, _++_, map, append-assoc, append-nil, append-cancel-left}
+use mathlib.Core.List.{List, [], _∷_, _++_, append-assoc, append-nil, append-cancel-left}
 use lib.ListN.{length, drop, length-append, drop-of-length-le}
 use lib.Seq.{drop-drop, drop-append-seam}
 use lib.Dec.{ltb, eqb}
@@ -13,7 +13,7 @@ use Rattle.text.specs.Choice.{pick}
 use Rattle.text.specs.Rfc3629.{Utf8-char, Utf8-octets, Starts, Starts-none, Stands}
 use Rattle.text.specs.Rfc3629.Utf8-octets.{none, more}
 use Rattle.text.specs.Rfc3629.Stands.{char, bad, end}
-use Rattle.text.specs.Utf8.{decodeAt, Character, chars}
+use Rattle.text.specs.Utf8.{decodeAt, Character, codes, chars}
 use Rattle.text.specs.Place.{counted, lineFeeds, sinceLineFeed, lineAfter, columnAfter, after, start, walked, judge, checkOf, Judged}
 use Rattle.text.specs.Place.Judged.{well-formed, ill-formed}
 use Rattle.text.specs.declared.utf8.Decoded.{Decoded}
@@ -24,12 +24,8 @@ use Rattle.text.proofs.Tests.{picked}
 use Rattle.text.proofs.Utf8Rules.{stands, same-character}
 use Rattle.text.proofs.CharLaws.{some-bytes, char-inside, chars-char, chars-bad, chars-end}
 
--- the code points of characters
-abbrev pub codes : List Character → List ℕ
-codes cs = map (λ (ch : Character). ch .code) cs
-
 -- a number that is held in 32 bits counts on as the number itself would
-count-on : (n : ℕ) → counted (counted n + 1) ≡ counted (n + 1)
+pub count-on : (n : ℕ) → counted (counted n + 1) ≡ counted (n + 1)
 unfolding counted
 count-on n =
     picked (λ (m : ℕ). counted (m + 1) ≡ counted (n + 1)) (ltb n 4294967295)

@@ -76,3 +76,9 @@ pub walk-row : (cs : List Character) (p : Place) → walked p cs .at ≡ rowEnd 
 unfolding walked after rowEnd
 walk-row [] p = refl
 walk-row (ch ∷ cs) p = walk-row cs (after p ch)
+
+-- the character that was decoded, and the place behind it
+pub to-next : (s : List ℕ) (p : Place) {d : Decoded} {c n : ℕ} {q : Place} → d ≡ decodeAt s (p .at) → d ≡ Char c n →
+    q ≡ after p (record { code = c; next = n }) → Next c q ≡ stepOf p (chars s (p .at))
+unfolding stepOf
+to-next s p d e q = rw (chars-char s (p .at) _ _ (sym d ∙ e), q)

@@ -1,8 +1,11 @@
 pub mod Choice
 pub mod Literal
+pub mod Ascii
 pub mod Rfc3629
 pub mod Utf8
 pub mod White
 pub mod Place
 pub mod Part
+pub mod Find
+pub mod Split
 pub mod Block

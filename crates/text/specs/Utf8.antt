@@ -1,7 +1,7 @@
 -- Decoding UTF-8, as a function: the length from the lead byte (RFC 3629, section 3), then the limits of its ABNF (section 4).
 -- proofs/Utf8Rules.antt shows that it answers exactly as the rules of Rfc3629.antt say.
 use Prim.Native.Nat.{ℕ, zero, suc, _+_, _-_, _*_, _%_}
-use mathlib.Core.List.{List, [], _∷_}
+use mathlib.Core.List.{List, [], _∷_, map}
 use mathlib.Core.Bool.{Bool, true, false}
 use lib.ListN.{length, getD, drop}
 use lib.Dec.{ltb, leb, eqb}
@@ -67,6 +67,10 @@ decodeAt s at = front at (drop at s)
 pub record Character : Type 0 where
   pub code : ℕ
   pub next : ℕ
+
+-- the code points of characters
+abbrev pub codes : List Character → List ℕ
+codes cs = map (λ (ch : Character). ch .code) cs
 
 abbrev pub character : Decoded → (ℕ → List Character) → List Character
 character (Char code next) rest = record { code = code; next = next } ∷ rest next

@@ -1,4 +1,6 @@
-// The text layer: UTF-8 by RFC 3629, white space by Unicode, places, and parts of byte slices.
+// The text layer: UTF-8 by RFC 3629, classes of ASCII characters, white space by Unicode, places, and parts of byte slices.
+pub mod ascii;
+pub mod find;
 pub mod part;
 pub mod place;
 pub mod utf8;

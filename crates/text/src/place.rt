@@ -83,6 +83,14 @@ impl Place {
                 };
             }
         }
+        self.decoded(s)
+    }
+
+    // The same, with no short way for a byte below 0x80: for a caller that has seen that none stands there.
+    pub fn decoded(self, s: &[u8]) -> Step
+        ensures { λ r. ⌜ r ≡ stepOf self (chars (now (s .entry)) (self .at)) ⌝ }
+    {
+        let at = self.at;
         let d = utf8::decode(s, at);
         match d {
             Decoded::Char { code, next } => Step::Next {

@@ -30,7 +30,7 @@ unfolding toTaken
 no-taken (ok n i) e = absurd (let z : _≡_ {A = ℕ} 0 1 = cc in omega arith)
 no-taken (no r) e = cc
 
--- the answer of a step, and the next step after it
+-- the answer of a step, one that is passed on, and the next step after it
 pub taken-ok : (x : Res ℕ) {v : ℕ} {c : Cursor} → ok v (c .index) ≡ x → Got v c ≡ toTaken x
 unfolding toTaken
 taken-ok x e = rw (sym e)
@@ -38,6 +38,9 @@ taken-ok x e = rw (sym e)
 pub taken-no : (x : Res ℕ) {r : Refusal} → no r ≡ x → No r ≡ toTaken x
 unfolding toTaken
 taken-no x e = rw (sym e)
+
+pub taken-same : {a : Taken} {z : Res ℕ} (x : Res ℕ) → a ≡ toTaken z → z ≡ x → a ≡ toTaken x
+taken-same x e h = e ∙ ap toTaken h
 
 pub then-taken : {B : Type 0} {a : Taken} (x : Res ℕ) (f : ℕ → ℕ → Res B) {v : ℕ} {c : Cursor} {y : Res B} →
     a ≡ toTaken x → a ≡ Got v c → y ≡ f v (c .index) → y ≡ bind x f
@@ -91,6 +94,7 @@ pub ruleset chain = (
   over-range,
   taken-ok,
   taken-no,
+  taken-same,
   then-taken,
   stop-taken,
   accepted-yes,

@@ -27,7 +27,7 @@ unfolding capacity
 some-by words i h (yes p) = omega arith
 some-by words i h (no p) = absurd (h (no-kind words i (omega arith)))
 
-some-kind : (words : List ℕ) (i : ℕ) → (kindAt words i ≡ 0 → ⊥) → i < length words
+pub some-kind : (words : List ℕ) (i : ℕ) → (kindAt words i ≡ 0 → ⊥) → i < length words
 some-kind words i h = some-by words i h (decLt i (capacity words))
 
 pub kind-inside : (text words : List ℕ) (kind i : ℕ) {r : Bool} → r ≡ isKind (tokens text words) kind i → r ≡ true → i < length words

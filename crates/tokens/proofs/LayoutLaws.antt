@@ -3,7 +3,7 @@ use mathlib.Core.Path.{_≡_, _∙_, refl, ap, sym}
 use Prim.Native.Nat.{ℕ, zero, suc}
 use mathlib.Core.List.{List, [], _∷_, _++_, append-assoc, append-nil}
 use Rattle.text.specs.Rfc3629.{Utf8-octets}
-use Rattle.text.specs.Utf8.{Character, chars}
+use Rattle.text.specs.Utf8.{Character, codes, chars}
 use Rattle.text.specs.Part.{partOf}
 use Rattle.text.specs.Place.{start, walked, lineAfter, columnAfter}
 use Rattle.text.specs.declared.place.Place.{Place}
@@ -13,7 +13,7 @@ use Rattle.text.proofs.StepLaws.{Stepped, Stopped}
 use Rattle.text.proofs.PlaceRules.{line-walked, column-walked}
 use Rattle.tokens.specs.Token.{look, tokenAt}
 use Rattle.tokens.specs.Lex.{Lexing, ended, refused, token, recordOf, lexeme, lexAt, lexNoMore, behind, lexFrom, lexText}
-use Rattle.tokens.specs.Layout.{Spelled, Lexical, Laid, codes}
+use Rattle.tokens.specs.Layout.{Spelled, Lexical, Laid}
 use Rattle.tokens.specs.declared.lexer.Lexeme.{Lexeme}
 use Rattle.tokens.specs.declared.lexer.Lexeme.the-variants.{Token}
 use Rattle.tokens.proofs.LayoutReads.{Looked, looked, Stretch, written, walked-on, row, octets}

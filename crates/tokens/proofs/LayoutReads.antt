@@ -6,12 +6,11 @@ use native.Mathlib.Omega.{arith}
 use mathlib.Core.List.{List, [], _∷_, _++_}
 use lib.ListN.{length, take, drop}
 use lib.Seq.{take-append-seam, take-add, drop-drop}
-use lib.Dec.{ltb}
 use borrow.Author.Tests.{ltb-true}
 use Rattle.text.specs.Rfc3629.{Utf8-char, Utf8-octets, Starts, Stands}
 use Rattle.text.specs.Rfc3629.Utf8-char.{utf8-1, utf8-2, utf8-3-E0, utf8-3-E1, utf8-3-ED, utf8-3-EE, utf8-4-F0, utf8-4-F1, utf8-4-F4}
 use Rattle.text.specs.Rfc3629.Stands.{char, bad, end}
-use Rattle.text.specs.Utf8.{decodeAt, Character, chars}
+use Rattle.text.specs.Utf8.{isAscii, decodeAt, Character, codes, chars}
 use Rattle.text.specs.Part.{partOf}
 use Rattle.text.specs.Place.{after, stepOf, walked}
 use Rattle.text.specs.declared.utf8.Decoded.{Decoded}
@@ -22,7 +21,7 @@ use Rattle.text.proofs.Utf8Rules.{stands}
 use Rattle.text.proofs.CharLaws.{chars-char, chars-bad, chars-end}
 use Rattle.text.proofs.PartLaws.{part-none}
 use Rattle.text.proofs.StepLaws.{Stepped, Stopped, step-next, step-stop}
-use Rattle.tokens.specs.Layout.{All, codes}
+use Rattle.tokens.specs.Layout.{All}
 
 -- from p to q one reads characters with these code points
 pub data Reads (s : List ℕ) : Place → Place → List ℕ → Type 0 where
@@ -200,16 +199,15 @@ pub octets : {s : List ℕ} {p q : Place} {cs : List ℕ} → Reads s p q cs →
 octets {s} {p} none = octets-none s (p .at)
 octets (more h t) = octets-more h t (octets t)
 
-abbrev pub isAscii : ℕ → Bool
-isAscii c = ltb c 0x80
-
 -- of ASCII characters the bytes are the code points
 pub ascii-octets : {w cs : List ℕ} → Utf8-octets w cs → All isAscii cs → w ≡ cs
+unfolding isAscii
 ascii-octets Utf8-octets.none All.none = refl
 ascii-octets (Utf8-octets.more {u} {v} {cs} {c} h t) (All.more a b) =
     rw (one-byte h (ltb-true c 0x80 a)) (ap (λ (l : List ℕ). c ∷ l) (ascii-octets t b))
 
 -- and as many as the bytes between the places
 pub ascii-length : {s : List ℕ} {p q : Place} {cs : List ℕ} → Reads s p q cs → All isAscii cs → q .at - p .at ≡ length cs
+unfolding isAscii
 ascii-length none All.none = omega arith
 ascii-length (more {c} h t) (All.more a b) = omega (arith, ascii-length t b, onwards t, byte-long h (ltb-true c 0x80 a))

@@ -9,12 +9,12 @@ use lib.Dec.{ltb, leb, eqb}
 use borrow.Author.Tests.{ltb-false, leb-true, eqb-true, eqb-false, lt-ltb}
 use Rattle.text.specs.Choice.{pick, within}
 use Rattle.text.specs.White.{isWhite}
-use Rattle.text.specs.Utf8.{Character, chars}
+use Rattle.text.specs.Utf8.{isAscii, Character, chars}
 use Rattle.text.specs.Place.{after}
 use Rattle.text.specs.declared.place.Place.{Place}
 use Rattle.text.proofs.Tests.{picked}
 use Rattle.text.proofs.StepLaws.{Stepped, Stopped}
-use Rattle.tokens.specs.Ascii.{isDigit, isAlpha}
+use Rattle.text.specs.Ascii.{isDigit, isAlpha}
 use Rattle.tokens.specs.Scan.{passed, triviaMode, trivia, quoted, withDigit, digits}
 use Rattle.tokens.specs.Layout.{All, Without, Trivia, Trailing, valueFrom, value, Digits}
 use Rattle.tokens.specs.Layout.Trivia.{white, comment}
@@ -22,7 +22,7 @@ use Rattle.tokens.specs.declared.scan.Quoted.{Quoted}
 use Rattle.tokens.specs.declared.scan.Quoted.the-variants.{Closed, Unterminated}
 use Rattle.tokens.specs.declared.scan.Run.{Run}
 use Rattle.tokens.specs.declared.scan.Run.the-variants.{Number, TooLarge}
-use Rattle.tokens.proofs.LayoutReads.{Reads, none, more, met, isAscii, ascii-length, byte-long}
+use Rattle.tokens.proofs.LayoutReads.{Reads, none, more, met, ascii-length, byte-long}
 
 -- from p to q one reads characters of which T holds
 pub record Passes (T : List ℕ → Type 0) (s : List ℕ) (p q : Place) : Type 0 where
@@ -184,6 +184,7 @@ string-passed s p (ch ∷ cs) e =
 
 -- digits and letters are ASCII
 within-below : (low high c : ℕ) → high < 0x80 → within low high c ≡ true → isAscii c ≡ true
+unfolding isAscii
 within-below low high c k =
     picked (λ (t : Bool). t ≡ true → isAscii c ≡ true) (leb low c) (λ h e. lt-ltb c 0x80 (omega (arith, leb-true c high e)))
     (λ h e. absurd (false≢true e))

@@ -17,7 +17,7 @@ use Rattle.text.specs.declared.place.Step.the-variants.{Next, Stop}
 use Rattle.text.proofs.Tests.{picked}
 use Rattle.text.proofs.PartLaws.{same-eq}
 use Rattle.text.proofs.StepLaws.{Stepped}
-use Rattle.tokens.specs.Ascii.{isDigit, isAlpha, isWordStart, isWordPart}
+use Rattle.text.specs.Ascii.{isDigit, isAlpha, isWordStart, isWordPart}
 use Rattle.tokens.specs.Scan.{quoted, digits}
 use Rattle.tokens.specs.Duration.{unitOf, below64, wholeMs, totalMs, amount}
 use Rattle.tokens.specs.Token.{look, singleKind, pairKind, single, punct, string, spanning, digitsIn, timeBy, time, decimal, amountTo}

@@ -1,6 +1,8 @@
 pub mod Chain
 pub mod CursorLaws
-pub mod AsciiLaws
+pub mod Okay
+pub mod PhraseLaws
+pub mod ListWordLaws
 pub mod ScanLaws
 pub mod PowerLaws
 pub mod RecordLaws
@@ -9,4 +11,5 @@ pub mod LayoutReads
 pub mod LayoutScan
 pub mod LayoutToken
 pub mod LayoutLaws
+pub mod BufferLaws
 pub mod Pairs

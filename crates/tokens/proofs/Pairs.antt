@@ -8,7 +8,7 @@ use Rattle.text.specs.White.{isWhite, whiteSpace, among}
 use Rattle.text.specs.Utf8.{chars, charsFrom, front, sized, sequenceLength}
 use Rattle.text.specs.Part.{partOf, sameBytes}
 use Rattle.text.specs.Place.{stepOf, after, counted}
-use Rattle.tokens.specs.Ascii.{isDigit, isAlpha, isWordStart, isWordPart}
+use Rattle.text.specs.Ascii.{isDigit, isAlpha, isWordStart, isWordPart}
 use Rattle.tokens.specs.Scan.{passed, triviaMode, trivia, withDigit, digits}
 use Rattle.tokens.specs.Duration.{unitOf, below64, wholeMs, amount}
 use Rattle.tokens.specs.Token.{singleKind, pairKind, single, punct, timeBy, time, decimal, amountTo, durationBy, duration, fractionAt, fraction, point, numberAt, number, tokenAt}

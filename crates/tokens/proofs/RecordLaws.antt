@@ -1,21 +1,12 @@
 -- Laws on records in the lent words.
 use mathlib.Core.Path.{_≡_}
 use mathlib.Core.List.{List}
-use Prim.Native.Nat.{ℕ, _+_, _-_, _*_, _/_, _<_, _≤_}
-use native.Mathlib.Omega.{arith}
+use Prim.Native.Nat.{ℕ, _+_, _*_, _/_, _<_, _≤_}
 use native.Mathlib.Numerals.{towards-suc}
-use lib.ListN.{length, getD, set, List·getD-eq-default}
+use lib.ListN.{length, set}
 use borrow.Author.Tests.{lt-ltb}
-use Rattle.text.proofs.Tests.{pick-same}
-use Rattle.tokens.specs.Record.{capacity, wordsOf, written, wordAt}
+use Rattle.tokens.specs.Record.{capacity, wordsOf, written}
 use Rattle.tokens.specs.declared.record.Record.{Record}
-
--- a word past the end is 0
-pub word-past : (words : List ℕ) (i k : ℕ) → length words - i * 6 ≤ k → 0 ≡ wordAt words i k
-unfolding wordAt
-word-past words i k h =
-    let z : getD words (i * 6 + k) 0 ≡ 0 = List·getD-eq-default words 0 (omega arith) in
-    rw (z, pick-same)
 
 -- where there is room, a record is written word by word
 pub six-stores : (words : List ℕ) (i : ℕ) (r : Record) → i < length words / 6 →

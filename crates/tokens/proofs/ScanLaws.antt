@@ -34,8 +34,9 @@ use Rattle.text.proofs.Utf8Laws.{decode-on}
 use Rattle.text.proofs.CharLaws.{char-inside, chars-char, chars-bad, chars-end}
 use Rattle.text.specs.Block.{Row}
 use Rattle.text.proofs.BlockLaws.{over-row}
+use Rattle.text.proofs.PlaceRules.{count-on}
 use Rattle.text.proofs.StepLaws.{Stepped, Stopped, step-next, step-stop}
-use Rattle.tokens.specs.Ascii.{isDigit, isAlpha, isWordStart, isWordPart}
+use Rattle.text.specs.Ascii.{isDigit, isAlpha, isWordStart, isWordPart}
 use Rattle.tokens.specs.Scan.{passed, isPlain, triviaMode, trivia, quoted, withDigit, digits}
 use Rattle.tokens.specs.declared.scan.Quoted.{Quoted}
 use Rattle.tokens.specs.declared.scan.Quoted.the-variants.{Closed, Unterminated}
@@ -348,16 +349,6 @@ words-printed =
 
 -- ---- a column that is counted from the offset first on
 
-counted-by : (c n : ℕ) → Dec (c + n < 4294967295) → counted (c + (n + 1)) ≡ counted (counted (c + n) + 1)
-unfolding counted
-counted-by c n (yes h) =
-    let m : c + (n + 1) ≡ c + n + 1 = omega arith in
-    rw (lt-ltb (c + n) 4294967295 h, m)
-counted-by c n (no h) = rw (le-ltb (c + n) 4294967295 (omega arith), le-ltb (c + (n + 1)) 4294967295 (omega arith))
-
-counted-on : (c n : ℕ) → counted (c + (n + 1)) ≡ counted (counted (c + n) + 1)
-counted-on c n = counted-by c n (decLt (c + n) 4294967295)
-
 counted-none-by : (c n : ℕ) → c ≤ 4294967295 → Dec (c < 4294967295) → counted (c + (n - n)) ≡ c
 unfolding counted
 counted-none-by c n h (yes k) =
@@ -374,8 +365,8 @@ counted-none c n h = counted-none-by c n h (decLt c 4294967295)
 
 pub counted-later : (c first at : ℕ) → first ≤ at → counted (c + (at + 1 - first)) ≡ counted (counted (c + (at - first)) + 1)
 counted-later c first at h =
-    let n : at + 1 - first ≡ (at - first) + 1 = omega arith in
-    rw n (counted-on c (at - first))
+    let n : c + (at + 1 - first) ≡ c + (at - first) + 1 = omega arith in
+    rw n (sym (count-on (c + (at - first))))
 
 -- ---- the loops: i, the scan from here ends as the scan from the start does
 

@@ -1,10 +1,11 @@
 -- What is seen of tokens, and the steps over them (document 01: "expect takes the equal token, else 20").
 use Prim.Native.Nat.{ℕ, _+_}
-use mathlib.Core.List.{List}
+use mathlib.Core.List.{List, []}
 use mathlib.Core.Bool.{Bool, true, false}
 use lib.Dec.{eqb}
 use Rattle.text.specs.Choice.{pick, within}
 use Rattle.text.specs.Part.{sameBytes}
+use Rattle.tokens.specs.Kind.{WORD, STRING, INTEGER}
 use Rattle.tokens.specs.Record.{kindAt, numberAt, bytesAt}
 use Rattle.tokens.specs.Result.{Res, ok, no, bind, refuse}
 use Rattle.tokens.specs.declared.cursor.Cursor.{Cursor}
@@ -19,13 +20,18 @@ pub record Tok : Type 0 where
   pub number : ℕ
   pub bytes : List ℕ
 
+-- "A name is shown as the part of the text between its quotes", and a word as its part; of no other token are bytes seen
+unfoldable pub bytesOf : ℕ → List ℕ → List ℕ
+bytesOf kind bytes = pick (eqb kind WORD) bytes (pick (eqb kind STRING) bytes [])
+
 -- the tokens that the records hold; past the last the kind is 0
 unfoldable pub tokens : List ℕ → List ℕ → ℕ → Tok
-tokens text words i = record { kind = kindAt words i; number = numberAt words i; bytes = bytesAt text words i }
+tokens text words i =
+    record { kind = kindAt words i; number = numberAt words i; bytes = bytesOf (kindAt words i) (bytesAt text words i) }
 
 -- "the one fixed word": a word with these bytes
 unfoldable pub isWord : (ℕ → Tok) → List ℕ → ℕ → Bool
-isWord t word i = pick (eqb (t i .kind) 1) (sameBytes (t i .bytes) word) false
+isWord t word i = pick (eqb (t i .kind) WORD) (sameBytes (t i .bytes) word) false
 
 -- a token of a kind, whichever there is
 unfoldable pub isKind : (ℕ → Tok) → ℕ → ℕ → Bool
@@ -41,7 +47,7 @@ takeWord t word i = pick (isWord t word i) (ok 0 (i + 1)) (refuse 20 i)
 
 -- number in range? 22, at the number
 unfoldable pub takeIn : (ℕ → Tok) → ℕ → ℕ → ℕ → Res ℕ
-takeIn t low high i = bind (takeKind t 3 i) (λ n j. pick (within low high n) (ok n j) (refuse 22 i))
+takeIn t low high i = bind (takeKind t INTEGER i) (λ n j. pick (within low high n) (ok n j) (refuse 22 i))
 
 -- the cursor at an index
 abbrev pub at : ℕ → Cursor

@@ -3,15 +3,17 @@
 use Prim.Native.Nat.{ℕ, _+_, _*_, _-_, _^_, _≤_}
 use mathlib.Core.Path.{_≡_}
 use mathlib.Core.Bool.{Bool, true, false}
-use mathlib.Core.List.{List, [], _∷_, _++_, map}
+use mathlib.Core.List.{List, [], _∷_, _++_}
 use lib.ListN.{length}
 use lib.Dec.{eqb}
 use Rattle.text.specs.Choice.{pick}
 use Rattle.text.specs.White.{isWhite}
-use Rattle.text.specs.Utf8.{Character, chars}
+use Rattle.text.specs.Utf8.{Character, codes, chars}
 use Rattle.text.specs.Place.{start, walked}
 use Rattle.text.specs.declared.place.Place.{Place}
-use Rattle.tokens.specs.Ascii.{isDigit, isWordStart, isWordPart}
+use Rattle.tokens.specs.Kind.{WORD, STRING, INTEGER, TIME, DURATION, DECIMAL, OPEN, CLOSE, OPEN-BRACE, CLOSE-BRACE, COMMA, POINT, POINTS, ASSIGN, EQ, NE, GE, LE, GT, LT, PLUS, MINUS}
+use Rattle.text.specs.Ascii.{isDigit, isWordStart, isWordPart}
+use Rattle.tokens.specs.Kind.{WORD, STRING, INTEGER, TIME, DURATION, DECIMAL, OPEN, CLOSE, OPEN-BRACE, CLOSE-BRACE, COMMA, POINT, POINTS, ASSIGN, EQ, NE, GE, LE, GT, LT, PLUS, MINUS}
 use Rattle.tokens.specs.Lex.{Lexing, ended, refused, token, recordOf}
 
 -- every one of these characters is of the class
@@ -58,41 +60,41 @@ pub data Unit-of : List ℕ → ℕ → Type 0 where
 
 -- ( ) { } , . .. = == != >= <= > < + -
 pub data Symbol : List ℕ → ℕ → Type 0 where
-  open-paren : Symbol (0x28 ∷ []) 7
-  close-paren : Symbol (0x29 ∷ []) 8
-  open-brace : Symbol (0x7B ∷ []) 9
-  close-brace : Symbol (0x7D ∷ []) 10
-  comma : Symbol (0x2C ∷ []) 11
-  dot : Symbol (0x2E ∷ []) 12
-  dot-dot : Symbol (0x2E ∷ 0x2E ∷ []) 13
-  assign : Symbol (0x3D ∷ []) 14
-  equal : Symbol (0x3D ∷ 0x3D ∷ []) 15
-  unequal : Symbol (0x21 ∷ 0x3D ∷ []) 16
-  at-least : Symbol (0x3E ∷ 0x3D ∷ []) 17
-  at-most : Symbol (0x3C ∷ 0x3D ∷ []) 18
-  greater : Symbol (0x3E ∷ []) 19
-  less : Symbol (0x3C ∷ []) 20
-  plus : Symbol (0x2B ∷ []) 21
-  minus : Symbol (0x2D ∷ []) 22
+  open-paren : Symbol (0x28 ∷ []) OPEN
+  close-paren : Symbol (0x29 ∷ []) CLOSE
+  open-brace : Symbol (0x7B ∷ []) OPEN-BRACE
+  close-brace : Symbol (0x7D ∷ []) CLOSE-BRACE
+  comma : Symbol (0x2C ∷ []) COMMA
+  dot : Symbol (0x2E ∷ []) POINT
+  dot-dot : Symbol (0x2E ∷ 0x2E ∷ []) POINTS
+  assign : Symbol (0x3D ∷ []) ASSIGN
+  equal : Symbol (0x3D ∷ 0x3D ∷ []) EQ
+  unequal : Symbol (0x21 ∷ 0x3D ∷ []) NE
+  at-least : Symbol (0x3E ∷ 0x3D ∷ []) GE
+  at-most : Symbol (0x3C ∷ 0x3D ∷ []) LE
+  greater : Symbol (0x3E ∷ []) GT
+  less : Symbol (0x3C ∷ []) LT
+  plus : Symbol (0x2B ∷ []) PLUS
+  minus : Symbol (0x2D ∷ []) MINUS
 
 -- these characters are a token of this kind with this number
 pub data Spelled : List ℕ → ℕ → ℕ → Type 0 where
-  word : {c : ℕ} {cs : List ℕ} → isWordStart c ≡ true → All isWordPart cs → Spelled (c ∷ cs) 1 0
-  string : {cs : List ℕ} → Without 0x22 cs → Without 0x0A cs → Spelled (0x22 ∷ (cs ++ (0x22 ∷ []))) 2 0
-  integer : {ds : List ℕ} → Digits ds → Spelled ds 3 (value ds)
+  word : {c : ℕ} {cs : List ℕ} → isWordStart c ≡ true → All isWordPart cs → Spelled (c ∷ cs) WORD 0
+  string : {cs : List ℕ} → Without 0x22 cs → Without 0x0A cs → Spelled (0x22 ∷ (cs ++ (0x22 ∷ []))) STRING 0
+  integer : {ds : List ℕ} → Digits ds → Spelled ds INTEGER (value ds)
   -- hour × 60 + minute
   time : {hs ms : List ℕ} → Digits hs → length hs ≤ 2 → value hs ≤ 23 → Digits ms → length ms ≡ 2 → value ms ≤ 59 →
-      Spelled (hs ++ (0x3A ∷ ms)) 4 (value hs * 60 + value ms)
+      Spelled (hs ++ (0x3A ∷ ms)) TIME (value hs * 60 + value ms)
   -- milliseconds: exactly the written number times the unit
   duration : {ws us : List ℕ} {unit n : ℕ} → Digits ws → Unit-of us unit → n ≡ value ws * unit → n ≤ 4294967295 →
-      Spelled (ws ++ us) 5 n
+      Spelled (ws ++ us) DURATION n
   decimal-duration : {ws fs us : List ℕ} {unit n : ℕ} → Digits ws → Digits fs → Unit-of us unit →
       n * 10 ^ length fs ≡ (value ws * 10 ^ length fs + value fs) * unit → n ≤ 4294967295 →
-      Spelled (ws ++ (0x2E ∷ (fs ++ us))) 5 n
+      Spelled (ws ++ (0x2E ∷ (fs ++ us))) DURATION n
   -- times 10,000
   decimal : {ws fs : List ℕ} {n : ℕ} → Digits ws → Digits fs → length fs ≤ 4 →
       n * 10 ^ length fs ≡ (value ws * 10 ^ length fs + value fs) * 10000 → n ≤ 4294967295 →
-      Spelled (ws ++ (0x2E ∷ fs)) 6 n
+      Spelled (ws ++ (0x2E ∷ fs)) DECIMAL n
   symbol : {cs : List ℕ} {kind : ℕ} → Symbol cs kind → Spelled cs kind 0
 
 -- the refusals of the lexer: 10 to 13 and 15 to 19
@@ -107,16 +109,12 @@ pub data Lexical : ℕ → Type 0 where
   fine : Lexical 18
   too-many : Lexical 19
 
--- the code points of characters
-abbrev pub codes : List Character → List ℕ
-codes cs = map (λ (ch : Character). ch .code) cs
-
 -- the offsets between which the bytes of a token stand that goes from p to q: a string's are those inside its quotes
 unfoldable pub firstByte : ℕ → Place → ℕ
-firstByte kind p = pick (eqb kind 2) (p .at + 1) (p .at)
+firstByte kind p = pick (eqb kind STRING) (p .at + 1) (p .at)
 
 unfoldable pub endByte : ℕ → Place → ℕ
-endByte kind q = pick (eqb kind 2) (q .at - 1) (q .at)
+endByte kind q = pick (eqb kind STRING) (q .at - 1) (q .at)
 
 -- the tokens of s behind the characters `before`, and how they end
 pub data Laid (s : List ℕ) : List Character → Lexing → Type 0 where

@@ -1,5 +1,5 @@
 -- What tokens a text gives, and how that ends (document 01, questions 10 to 19).
-use Prim.Native.Nat.{ℕ, zero, suc, _+_, _-_}
+use Prim.Native.Nat.{ℕ, zero, suc, _+_, _-_, _*_}
 use mathlib.Core.List.{List, [], _∷_}
 use lib.ListN.{length}
 use lib.Dec.{ltb}
@@ -11,7 +11,7 @@ use Rattle.text.specs.declared.place.Step.{Step}
 use Rattle.text.specs.declared.place.Step.the-variants.{Next, Stop}
 use Rattle.tokens.specs.Scan.{trivia}
 use Rattle.tokens.specs.Token.{look, tokenAt}
-use Rattle.tokens.specs.Record.{written}
+use Rattle.tokens.specs.Record.{recordSize, written}
 use Rattle.tokens.specs.declared.lexer.Lexeme.{Lexeme}
 use Rattle.tokens.specs.declared.lexer.Lexeme.the-variants.{Token}
 use Rattle.tokens.specs.declared.record.Record.{Record}
@@ -59,8 +59,11 @@ lexFrom zero s p = lexNoMore (behind s p) (look s (behind s p))
 lexFrom (suc n) s p = lexAt s (behind s p) (look s (behind s p)) (lexFrom n s)
 
 -- at most 1,024 tokens
+abbrev pub mostTokens : ℕ
+mostTokens = 1024
+
 unfoldable pub lexText : List ℕ → Lexing
-lexText s = lexFrom 1024 s start
+lexText s = lexFrom mostTokens s start
 
 -- the answer to a caller: with the count of the tokens and the end's place, or the refusal; n tokens came before
 unfoldable pub answerFrom : ℕ → Lexing → Lexed
@@ -74,13 +77,20 @@ writtenFrom i words (ended p) = words
 writtenFrom i words (refused number p) = words
 writtenFrom i words (token r l) = writtenFrom (i + 1) (written words i r) l
 
+-- the longest text, and the fewest words that are lent: room for the most tokens
+abbrev pub mostBytes : ℕ
+mostBytes = 16384
+
+abbrev pub leastWords : ℕ
+leastWords = mostTokens * recordSize
+
 -- the answer and the words at exit, with questions 1 and 2 first: text at most 16,384 bytes, at least 6,144 words
 unfoldable pub lexAnswer : List ℕ → List ℕ → Lexed
 lexAnswer s words =
-    pick (ltb 16384 (length s)) (Refused 1 0 0)
-    (pick (ltb (length words) 6144) (Refused 2 0 0) (answerFrom 0 (lexText s)))
+    pick (ltb mostBytes (length s)) (Refused 1 0 0)
+    (pick (ltb (length words) leastWords) (Refused 2 0 0) (answerFrom 0 (lexText s)))
 
 unfoldable pub lexWords : List ℕ → List ℕ → List ℕ
 lexWords s words =
-    pick (ltb 16384 (length s)) words
-    (pick (ltb (length words) 6144) words (writtenFrom 0 words (lexText s)))
+    pick (ltb mostBytes (length s)) words
+    (pick (ltb (length words) leastWords) words (writtenFrom 0 words (lexText s)))

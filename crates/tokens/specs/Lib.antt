@@ -1,9 +1,12 @@
-pub mod Ascii
+pub mod Kind
 pub mod Scan
 pub mod Duration
 pub mod Token
 pub mod Record
 pub mod Lex
+pub mod Ended
 pub mod Result
 pub mod Cursor
+pub mod Phrase
+pub mod Grammar
 pub mod Layout

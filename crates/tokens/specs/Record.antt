@@ -9,9 +9,13 @@ use Rattle.text.specs.Choice.{pick}
 use Rattle.text.specs.Part.{partOf}
 use Rattle.tokens.specs.declared.record.Record.{Record}
 
+-- how many words a record has
+abbrev pub recordSize : ℕ
+recordSize = 6
+
 -- how many whole records the words hold
 unfoldable pub capacity : List ℕ → ℕ
-capacity words = length words / 6
+capacity words = length words / recordSize
 
 -- the six words of a record
 unfoldable pub wordsOf : Record → List ℕ
@@ -19,11 +23,11 @@ wordsOf r = r .kind ∷ r .number ∷ r .start ∷ r .length ∷ r .line ∷ r .
 
 -- the words with a record written at an index; unchanged where there is no room
 unfoldable pub written : List ℕ → ℕ → Record → List ℕ
-written words i r = pick (ltb i (capacity words)) (sets words (i * 6) (wordsOf r)) words
+written words i r = pick (ltb i (capacity words)) (sets words (i * recordSize) (wordsOf r)) words
 
 -- the word k of the record at an index; 0 where there is none
 unfoldable pub wordAt : List ℕ → ℕ → ℕ → ℕ
-wordAt words i k = pick (ltb i (capacity words)) (getD words (i * 6 + k) 0) 0
+wordAt words i k = pick (ltb i (capacity words)) (getD words (i * recordSize + k) 0) 0
 
 unfoldable pub kindAt : List ℕ → ℕ → ℕ
 kindAt words i = wordAt words i 0
@@ -43,6 +47,6 @@ lineAt words i = wordAt words i 4
 unfoldable pub columnAt : List ℕ → ℕ → ℕ
 columnAt words i = wordAt words i 5
 
--- "A name is shown as the part of the text between its quotes", and a word as its part
+-- the part of the text that a token's record names: of a string, what stands between its quotes
 unfoldable pub bytesAt : List ℕ → List ℕ → ℕ → List ℕ
 bytesAt text words i = partOf text (startAt words i) (startAt words i + lengthAt words i)

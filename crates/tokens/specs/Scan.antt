@@ -8,7 +8,7 @@ use Rattle.text.specs.White.{isWhite}
 use Rattle.text.specs.Utf8.{Character}
 use Rattle.text.specs.Place.{after}
 use Rattle.text.specs.declared.place.Place.{Place}
-use Rattle.tokens.specs.Ascii.{isDigit}
+use Rattle.text.specs.Ascii.{isDigit}
 use Rattle.tokens.specs.declared.scan.Quoted.{Quoted}
 use Rattle.tokens.specs.declared.scan.Quoted.the-variants.{Closed, Unterminated}
 use Rattle.tokens.specs.declared.scan.Run.{Run}

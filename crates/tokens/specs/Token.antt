@@ -10,7 +10,9 @@ use Rattle.text.specs.Place.{stepOf}
 use Rattle.text.specs.declared.place.Place.{Place}
 use Rattle.text.specs.declared.place.Step.{Step}
 use Rattle.text.specs.declared.place.Step.the-variants.{Next, Stop}
-use Rattle.tokens.specs.Ascii.{isDigit, isAlpha, isWordStart, isWordPart}
+use Rattle.tokens.specs.Kind.{WORD, STRING, INTEGER, TIME, DURATION, DECIMAL, OPEN, CLOSE, OPEN-BRACE, CLOSE-BRACE, COMMA, POINT, POINTS, ASSIGN, EQ, NE, GE, LE, GT, LT, PLUS, MINUS}
+use Rattle.text.specs.Ascii.{isDigit, isAlpha, isWordStart, isWordPart}
+use Rattle.tokens.specs.Kind.{WORD, STRING, INTEGER, TIME, DURATION, DECIMAL, OPEN, CLOSE, OPEN-BRACE, CLOSE-BRACE, COMMA, POINT, POINTS, ASSIGN, EQ, NE, GE, LE, GT, LT, PLUS, MINUS}
 use Rattle.tokens.specs.Scan.{passed, quoted, digits}
 use Rattle.tokens.specs.Duration.{unitOf, amount}
 use Rattle.tokens.specs.declared.scan.Quoted.{Quoted}
@@ -30,14 +32,22 @@ look s p = stepOf p (chars s (p .at))
 -- "7 to 22 for ( ) { } , . .. = == != >= <= > < + - in that order"
 unfoldable pub singleKind : ℕ → ℕ
 singleKind c =
-    pick (eqb c 0x28) 7 (pick (eqb c 0x29) 8 (pick (eqb c 0x7B) 9 (pick (eqb c 0x7D) 10 (pick (eqb c 0x2C) 11
-    (pick (eqb c 0x2E) 12 (pick (eqb c 0x3D) 14 (pick (eqb c 0x3E) 19 (pick (eqb c 0x3C) 20 (pick (eqb c 0x2B) 21
-    (pick (eqb c 0x2D) 22 0))))))))))
+    pick (eqb c 0x28) OPEN
+    (pick (eqb c 0x29) CLOSE
+    (pick (eqb c 0x7B) OPEN-BRACE
+    (pick (eqb c 0x7D) CLOSE-BRACE
+    (pick (eqb c 0x2C) COMMA
+    (pick (eqb c 0x2E) POINT
+    (pick (eqb c 0x3D) ASSIGN
+    (pick (eqb c 0x3E) GT
+    (pick (eqb c 0x3C) LT
+    (pick (eqb c 0x2B) PLUS
+    (pick (eqb c 0x2D) MINUS 0))))))))))
 
 unfoldable pub pairKind : ℕ → ℕ → ℕ
 pairKind c d =
-    pick (eqb c 0x2E) (pick (eqb d 0x2E) 13 0)
-    (pick (eqb d 0x3D) (pick (eqb c 0x3D) 15 (pick (eqb c 0x21) 16 (pick (eqb c 0x3E) 17 (pick (eqb c 0x3C) 18 0)))) 0)
+    pick (eqb c 0x2E) (pick (eqb d 0x2E) POINTS 0)
+    (pick (eqb d 0x3D) (pick (eqb c 0x3D) EQ (pick (eqb c 0x21) NE (pick (eqb c 0x3E) GE (pick (eqb c 0x3C) LE 0)))) 0)
 
 -- can a token begin here? 10
 unfoldable pub single : ℕ → Place → Place → Lexeme
@@ -50,7 +60,7 @@ punct c p next Stop = single c p next
 
 -- a string: its bytes are those inside the quotes. Closed before LF or end? 11
 unfoldable pub string : Place → Quoted → Lexeme
-string p (Closed end next) = Token 2 0 (p .at) end next
+string p (Closed end next) = Token STRING 0 (p .at) end next
 string p (Unterminated end) = Refused 11
 
 -- a token of a kind from p to e, with a number
@@ -66,7 +76,7 @@ unfoldable pub timeBy : Place → ℕ → ℕ → ℕ → ℕ → Place → Lexe
 timeBy p hour hours minute minutes e =
     pick (ltb 2 hours) (Refused 13)
     (pick (eqb minutes 2)
-    (pick (ltb 23 hour) (Refused 13) (pick (ltb 59 minute) (Refused 13) (spanning 4 (hour * 60 + minute) p e)))
+    (pick (ltb 23 hour) (Refused 13) (pick (ltb 59 minute) (Refused 13) (spanning TIME (hour * 60 + minute) p e)))
     (Refused 13))
 
 -- a time whose hour's digits end at q; m is the place behind the colon
@@ -79,11 +89,11 @@ unfoldable pub decimal : Place → ℕ → ℕ → ℕ → Place → Lexeme
 decimal p whole frac d e =
     pick (ltb 4 d) (Refused 15)
     (pick (ltb (whole * 10000 + frac * 10 ^ (4 - d)) 4294967296)
-    (spanning 6 (whole * 10000 + frac * 10 ^ (4 - d)) p e)
+    (spanning DECIMAL (whole * 10000 + frac * 10 ^ (4 - d)) p e)
     (Refused 12))
 
 unfoldable pub amountTo : Place → Place → Amount → Lexeme
-amountTo p e (Ms ms) = spanning 5 ms p e
+amountTo p e (Ms ms) = spanning DURATION ms p e
 amountTo p e (Amount.Refused number) = Refused number
 
 -- a duration whose unit ends at e: unit one of ms, s, m, h? 16
@@ -109,16 +119,16 @@ fraction s p whole f TooLarge = Refused 12
 -- "A point joins a number only when a digit follows." The number ends at q, f is the place behind the point.
 unfoldable pub point : List ℕ → Place → ℕ → Place → Place → Step → Lexeme
 point s p whole q f (Next c next) =
-    pick (isDigit c) (fraction s p whole f (digits 0 f (chars s (f .at)))) (spanning 3 whole p q)
-point s p whole q f Stop = spanning 3 whole p q
+    pick (isDigit c) (fraction s p whole f (digits 0 f (chars s (f .at)))) (spanning INTEGER whole p q)
+point s p whole q f Stop = spanning INTEGER whole p q
 
 -- behind the first digits of a number, which end at q
 unfoldable pub numberAt : List ℕ → Place → ℕ → Place → Step → Lexeme
 numberAt s p value q (Next c next) =
     pick (eqb c 0x3A) (time p value q next (digits 0 next (chars s (next .at))))
     (pick (eqb c 0x2E) (point s p value q next (look s next))
-    (pick (isAlpha c) (duration s p value 0 0 q) (spanning 3 value p q)))
-numberAt s p value q Stop = spanning 3 value p q
+    (pick (isAlpha c) (duration s p value 0 0 q) (spanning INTEGER value p q)))
+numberAt s p value q Stop = spanning INTEGER value p q
 
 unfoldable pub number : List ℕ → Place → Run → Lexeme
 number s p (Number value q) = numberAt s p value q (look s q)
@@ -126,7 +136,7 @@ number s p TooLarge = Refused 12
 
 -- a word
 unfoldable pub word : List ℕ → Place → Lexeme
-word s p = spanning 1 0 p (passed isWordPart p (chars s (p .at)))
+word s p = spanning WORD 0 p (passed isWordPart p (chars s (p .at)))
 
 -- the token that begins at p with the character c; next is the place behind that character
 unfoldable pub tokenAt : List ℕ → Place → ℕ → Place → Lexeme

@@ -1,5 +1,6 @@
 // A cursor over token records, ported from cursor.rs: an index, by value. The words end with the last record, so past the last
 // token the kind is 0 and the index is the count of the tokens.
+use crate::kind;
 use crate::record;
 ghost use mathlib.Core.Path.{_≡_};
 ghost use Prim.Native.Nat.{_+_};
@@ -38,6 +39,20 @@ pub fn refuse(number: u32, token: usize) -> Refusal
         token,
         detail: 0,
     }
+}
+
+// The bytes of a word, or of a string between its quotes; none of any other token.
+pub fn bytes<'a, 'b>(text: &'a [u8], words: &'b [u32], i: usize) -> &'a [u8]
+    ensures { λ r. ⌜ now r ≡ tokens (now (text .entry)) (now (words .entry)) i .bytes ⌝ }
+{
+    let here = record::kind(words, i);
+    if here == kind::WORD {
+        return record::bytes(text, words, i);
+    }
+    if here == kind::STRING {
+        return record::bytes(text, words, i);
+    }
+    &text[..0]
 }
 
 impl Cursor {
@@ -90,8 +105,8 @@ impl Cursor {
         ensures { λ r. ⌜ r ≡ isWord (tokens (now (text .entry)) (now (words .entry))) (now (word .entry)) (self .index) ⌝ }
     {
         let i = self.index;
-        if record::kind(words, i) == 1 {
-            return text::part::same(record::bytes(text, words, i), word);
+        if record::kind(words, i) == kind::WORD {
+            return text::part::same(bytes(text, words, i), word);
         }
         false
     }
@@ -142,26 +157,26 @@ impl Cursor {
     pub fn expect_ident(self, text: &[u8], words: &[u32]) -> Taken
         ensures { λ r. ⌜ r ≡ toTaken (takeKind (tokens (now (text .entry)) (now (words .entry))) 1 (self .index)) ⌝ }
     {
-        self.expect(text, words, 1)
+        self.expect(text, words, kind::WORD)
     }
 
     // A string; its bytes stand at the index where the cursor stood.
     pub fn expect_string(self, text: &[u8], words: &[u32]) -> Taken
         ensures { λ r. ⌜ r ≡ toTaken (takeKind (tokens (now (text .entry)) (now (words .entry))) 2 (self .index)) ⌝ }
     {
-        self.expect(text, words, 2)
+        self.expect(text, words, kind::STRING)
     }
 
     pub fn expect_int(self, text: &[u8], words: &[u32]) -> Taken
         ensures { λ r. ⌜ r ≡ toTaken (takeKind (tokens (now (text .entry)) (now (words .entry))) 3 (self .index)) ⌝ }
     {
-        self.expect(text, words, 3)
+        self.expect(text, words, kind::INTEGER)
     }
 
     pub fn expect_duration(self, text: &[u8], words: &[u32]) -> Taken
         ensures { λ r. ⌜ r ≡ toTaken (takeKind (tokens (now (text .entry)) (now (words .entry))) 5 (self .index)) ⌝ }
     {
-        self.expect(text, words, 5)
+        self.expect(text, words, kind::DURATION)
     }
 
     // An integer from low to high; else 20, or 22 at the number.
@@ -169,7 +184,7 @@ impl Cursor {
         ensures { λ r. ⌜ r ≡ toTaken (takeIn (tokens (now (text .entry)) (now (words .entry))) low high (self .index)) ⌝ }
     {
         let i = self.index;
-        let taken = self.expect(text, words, 3);
+        let taken = self.expect(text, words, kind::INTEGER);
         match taken {
             Taken::No(refusal) => Taken::No(refusal),
             Taken::Got(n, next) => {

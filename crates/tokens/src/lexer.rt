@@ -1,12 +1,13 @@
 // The lexer, ported from lexer.rs: the tokens of a text, or the first refusal among questions 10 to 19.
-use crate::ascii;
 use crate::duration;
 use crate::duration::Amount;
+use crate::kind;
 use crate::record;
 use crate::record::Record;
 use crate::scan;
 use crate::scan::Quoted;
 use crate::scan::Run;
+use text::ascii;
 use text::place;
 use text::place::Place;
 use text::place::Step;
@@ -17,6 +18,13 @@ ghost use Rattle.text.specs.Place.{counted, start};
 ghost use Rattle.tokens.specs.Scan.{quoted, digits};
 ghost use Rattle.tokens.specs.Token.{look, singleKind, pairKind, single, punct, string, digitsIn, timeBy, time, decimal, durationBy, duration, fractionAt, fraction, point, numberAt, number, word, spanning, tokenAt};
 ghost use Rattle.tokens.specs.Lex.{recordOf, lexFrom, lexText, answerFrom, writtenFrom, lexAnswer, lexWords};
+
+// The most tokens and bytes that a text may have, and the fewest words that are lent: room for the most tokens.
+pub const MOST_TOKENS: usize = 1024;
+
+pub const MOST_BYTES: usize = 16384;
+
+pub const LEAST_WORDS: usize = MOST_TOKENS * record::RECORD_SIZE;
 
 // A token with its bytes from start to end and the place behind it, or the number of a refusal.
 pub enum Lexeme {
@@ -49,36 +57,36 @@ fn single_kind(code: u32) -> u32
     ensures { λ r. ⌜ r ≡ singleKind code ⌝ }
 {
     if code == 0x28 {
-        return 7;
+        return kind::OPEN;
     }
     if code == 0x29 {
-        return 8;
+        return kind::CLOSE;
     }
     if code == 0x7B {
-        return 9;
+        return kind::OPEN_BRACE;
     }
     if code == 0x7D {
-        return 10;
+        return kind::CLOSE_BRACE;
     }
     if code == 0x2C {
-        return 11;
+        return kind::COMMA;
     }
     if code == 0x2E {
-        return 12;
+        return kind::POINT;
     }
     if code == 0x3D {
-        return 14;
+        return kind::ASSIGN;
     }
     if code == 0x3E {
-        return 19;
+        return kind::GT;
     }
     if code == 0x3C {
-        return 20;
+        return kind::LT;
     }
     if code == 0x2B {
-        return 21;
+        return kind::PLUS;
     }
-    if code == 0x2D { 22 } else { 0 }
+    if code == 0x2D { kind::MINUS } else { 0 }
 }
 
 // The kind of a token of two characters; 0 where there is none.
@@ -87,7 +95,7 @@ fn pair_kind(first: u32, second: u32) -> u32
 {
     if first == 0x2E {
         if second == 0x2E {
-            return 13;
+            return kind::POINTS;
         }
         return 0;
     }
@@ -95,15 +103,15 @@ fn pair_kind(first: u32, second: u32) -> u32
         return 0;
     }
     if first == 0x3D {
-        return 15;
+        return kind::EQ;
     }
     if first == 0x21 {
-        return 16;
+        return kind::NE;
     }
     if first == 0x3E {
-        return 17;
+        return kind::GE;
     }
-    if first == 0x3C { 18 } else { 0 }
+    if first == 0x3C { kind::LE } else { 0 }
 }
 
 // A token of a kind that spans two places.
@@ -132,7 +140,7 @@ fn single_punct(code: u32, p: Place, next: Place) -> Lexeme
 fn punct_token(s: &[u8], code: u32, p: Place, next: Place) -> Lexeme
     ensures { λ r. ⌜ r ≡ punct code p next (look (now (s .entry)) next) ⌝ }
 {
-    let step = scan::peek(s, next);
+    let step = next.bump(s);
     match step {
         Step::Next {
             code: second,
@@ -155,7 +163,7 @@ fn string_token(s: &[u8], p: Place) -> Lexeme
     let found = scan::string_end(s, p);
     match found {
         Quoted::Closed { end, next } => Lexeme::Token {
-            kind: 2,
+            kind: kind::STRING,
             number: 0,
             start: p.at,
             end,
@@ -216,7 +224,7 @@ fn time_by(p: Place, hour: u32, hours: usize, minute: u32, minutes: usize, end: 
     if 59 < minute {
         return Lexeme::Refused(13);
     }
-    span(4, hour * 60 + minute, p, end)
+    span(kind::TIME, hour * 60 + minute, p, end)
 }
 
 // A decimal with so many digits behind the point.
@@ -228,7 +236,7 @@ fn decimal_token(p: Place, whole: u32, frac: u32, count: usize, end: Place) -> L
     }
     let value = whole as u64 * 10000 + frac as u64 * duration::power_of_ten(4 - count);
     if value < 4294967296 {
-        return span(6, value as u32, p, end);
+        return span(kind::DECIMAL, value as u32, p, end);
     }
     Lexeme::Refused(12)
 }
@@ -241,7 +249,7 @@ fn duration_by(p: Place, unit: u32, whole: u32, frac: u32, count: usize, end: Pl
     }
     let amount = duration::duration_ms(whole, frac, count, unit);
     match amount {
-        Amount::Ms(ms) => span(5, ms, p, end),
+        Amount::Ms(ms) => span(kind::DURATION, ms, p, end),
         Amount::Refused(number) => Lexeme::Refused(number),
     }
 }
@@ -262,7 +270,7 @@ fn fraction_by(s: &[u8], p: Place, whole: u32, frac: u32, f: Place, end: Place) 
     ensures { λ r. ⌜ r ≡ fractionAt (now (s .entry)) p whole frac f end (look (now (s .entry)) end) ⌝ }
 {
     let count = digit_count(f, end);
-    let step = scan::peek(s, end);
+    let step = end.bump(s);
     match step {
         Step::Next { code, place: _ } => {
             if ascii::is_alpha(code) {
@@ -288,15 +296,15 @@ fn fraction_token(s: &[u8], p: Place, whole: u32, f: Place) -> Lexeme
 fn point_token(s: &[u8], p: Place, whole: u32, q: Place, f: Place) -> Lexeme
     ensures { λ r. ⌜ r ≡ point (now (s .entry)) p whole q f (look (now (s .entry)) f) ⌝ }
 {
-    let step = scan::peek(s, f);
+    let step = f.bump(s);
     match step {
         Step::Next { code, place: _ } => {
             if ascii::is_digit(code) {
                 return fraction_token(s, p, whole, f);
             }
-            span(3, whole, p, q)
+            span(kind::INTEGER, whole, p, q)
         }
-        Step::Stop => span(3, whole, p, q),
+        Step::Stop => span(kind::INTEGER, whole, p, q),
     }
 }
 
@@ -304,7 +312,7 @@ fn point_token(s: &[u8], p: Place, whole: u32, q: Place, f: Place) -> Lexeme
 fn number_by(s: &[u8], p: Place, value: u32, q: Place) -> Lexeme
     ensures { λ r. ⌜ r ≡ numberAt (now (s .entry)) p value q (look (now (s .entry)) q) ⌝ }
 {
-    let step = scan::peek(s, q);
+    let step = q.bump(s);
     match step {
         Step::Next { code, place } => {
             if code == 0x3A {
@@ -316,9 +324,9 @@ fn number_by(s: &[u8], p: Place, value: u32, q: Place) -> Lexeme
             if ascii::is_alpha(code) {
                 return duration_token(s, p, value, 0, 0, q);
             }
-            span(3, value, p, q)
+            span(kind::INTEGER, value, p, q)
         }
-        Step::Stop => span(3, value, p, q),
+        Step::Stop => span(kind::INTEGER, value, p, q),
     }
 }
 
@@ -335,7 +343,7 @@ fn number_token(s: &[u8], p: Place) -> Lexeme
 fn word_token(s: &[u8], p: Place) -> Lexeme
     ensures { λ r. ⌜ r ≡ word (now (s .entry)) p ⌝ }
 {
-    span(1, 0, p, scan::word_end(s, p))
+    span(kind::WORD, 0, p, scan::word_end(s, p))
 }
 
 // The token that begins at p with the character code; next is the place behind that character.
@@ -376,7 +384,7 @@ fn lex_all(s: &[u8], words: &mut [u32]) -> Lexed
     let mut count: usize = 0;
     loop {
         let q = scan::skip_trivia(s, p);
-        let step = scan::peek(s, q);
+        let step = q.bump(s);
         match step {
             Step::Stop => {
                 return Lexed::Tokens {
@@ -386,7 +394,7 @@ fn lex_all(s: &[u8], words: &mut [u32]) -> Lexed
                 };
             }
             Step::Next { code, place } => {
-                if count == 1024 {
+                if count == MOST_TOKENS {
                     return Lexed::Refused {
                         number: 19,
                         line: q.line,
@@ -423,14 +431,14 @@ fn lex_all(s: &[u8], words: &mut [u32]) -> Lexed
 pub fn lex(s: &[u8], words: &mut [u32]) -> Lexed
     ensures { λ r. ⌜ (r ≡ lexAnswer (now (s .entry)) (now (words .entry))) × (now (words .exit) ≡ lexWords (now (s .entry)) (now (words .entry))) ⌝ }
 {
-    if 16384 < s.len() {
+    if MOST_BYTES < s.len() {
         return Lexed::Refused {
             number: 1,
             line: 0,
             column: 0,
         };
     }
-    if words.len() < 6144 {
+    if words.len() < LEAST_WORDS {
         return Lexed::Refused {
             number: 2,
             line: 0,

@@ -1,6 +1,7 @@
 // Token records: six words each in the lent words. Only this file and specs/Record.antt know the layout.
 ghost use mathlib.Core.Path.{_≡_};
-ghost use Rattle.tokens.specs.Record.{capacity, written, wordAt, kindAt, numberAt, startAt, lengthAt, lineAt, columnAt, bytesAt};
+ghost use Prim.Native.Nat.{_<_};
+ghost use Rattle.tokens.specs.Record.{recordSize, capacity, written, wordAt, kindAt, numberAt, startAt, lengthAt, lineAt, columnAt, bytesAt};
 
 pub struct Record {
     pub kind: u32,
@@ -11,21 +12,24 @@ pub struct Record {
     pub column: u32,
 }
 
+// How many words a record has.
+pub const RECORD_SIZE: usize = 6;
+
 // How many whole records the words hold.
 pub fn count(words: &[u32]) -> usize
     ensures { λ r. ⌜ r ≡ capacity (now (words .entry)) ⌝ }
 {
-    words.len() / 6
+    words.len() / RECORD_SIZE
 }
 
 // Writes a record at an index. Where there is no room for it nothing is written.
 pub fn put(words: &mut [u32], i: usize, r: Record)
     ensures { λ _. ⌜ now (words .exit) ≡ written (now (words .entry)) i r ⌝ }
 {
-    if words.len() / 6 <= i {
+    if words.len() / RECORD_SIZE <= i {
         return;
     }
-    let at = i * 6;
+    let at = i * RECORD_SIZE;
     words[at] = r.kind;
     words[at + 1] = r.number;
     words[at + 2] = r.start;
@@ -34,17 +38,15 @@ pub fn put(words: &mut [u32], i: usize, r: Record)
     words[at + 5] = r.column;
 }
 
-// Word k of the record at an index; 0 where there is none.
+// Word k of the record at an index; 0 where there is no record.
 fn word(words: &[u32], i: usize, k: usize) -> u32
+    requires { ⌜ k < recordSize ⌝ }
     ensures { λ r. ⌜ r ≡ wordAt (now (words .entry)) i k ⌝ }
 {
-    if words.len() / 6 <= i {
+    if words.len() / RECORD_SIZE <= i {
         return 0;
     }
-    let at = i * 6;
-    if words.len() - at <= k {
-        return 0;
-    }
+    let at = i * RECORD_SIZE;
     words[at + k]
 }
 
@@ -84,7 +86,7 @@ pub fn column(words: &[u32], i: usize) -> u32
     word(words, i, 5)
 }
 
-// The part of the text that is a word, or a string between its quotes.
+// The part of the text that a token's record names: of a string, what stands between its quotes.
 pub fn bytes<'a, 'b>(text: &'a [u8], words: &'b [u32], i: usize) -> &'a [u8]
     ensures { λ r. ⌜ now r ≡ bytesAt (now (text .entry)) (now (words .entry)) i ⌝ }
 {

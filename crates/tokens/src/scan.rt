@@ -1,6 +1,6 @@
 // Scans over the characters of a text. Each has one loop, and answers for any bytes and any place. A byte below 0x80 is a character
-// by itself and is read in place; bump reads the others. For speed a loop holds its place in parts.
-use crate::ascii;
+// by itself and is read in place; decoded reads the others. For speed a loop holds its place in parts.
+use text::ascii;
 use text::place::Place;
 use text::place::Step;
 use text::place::count_up;
@@ -12,8 +12,8 @@ ghost use Prim.Native.Nat.{_*_, _+_, _-_, _≤_};
 ghost use Rattle.text.specs.Choice.{pick};
 ghost use Rattle.text.specs.Block.{block, Row};
 ghost use Rattle.text.specs.Utf8.{chars};
-ghost use Rattle.text.specs.Place.{counted, stepOf};
-ghost use Rattle.tokens.specs.Ascii.{isAlpha, isWordPart};
+ghost use Rattle.text.specs.Place.{counted};
+ghost use Rattle.text.specs.Ascii.{isAlpha, isWordPart};
 ghost use Rattle.tokens.specs.Scan.{passed, isPlain, trivia, quoted, digits};
 
 fn wide(b: u8) -> u32
@@ -75,21 +75,6 @@ pub fn letters_end(s: &[u8], from: Place) -> Place
         at = at + 1;
         column = count_up(column);
     }
-}
-
-// The character at a place and the place behind it, as bump answers. A byte below 0x80 is not decoded.
-pub fn peek(s: &[u8], p: Place) -> Step
-    ensures { λ r. ⌜ r ≡ stepOf p (chars (now (s .entry)) (p .at)) ⌝ }
-{
-    let at = p.at;
-    let b = octet(s, at);
-    if b < 0x80 {
-        return Step::Next {
-            code: b,
-            place: p.after(b, at + 1),
-        };
-    }
-    p.bump(s)
 }
 
 // Is this byte a character by itself, and not LF?
@@ -164,7 +149,7 @@ fn comment_end(s: &[u8], from: Place) -> Place
         if octet(s, q.at) == 0xA {
             return q;
         }
-        let step = q.bump(s);
+        let step = q.decoded(s);
         match step {
             Step::Next { code: _, place } => {
                 p = place;
@@ -209,7 +194,7 @@ pub fn skip_trivia(s: &[u8], from: Place) -> Place
             line = end.line;
             column = end.column;
         } else {
-            match peek(s, Place { at, line, column }) {
+            match (Place { at, line, column }).bump(s) {
                 Step::Next { code, place } => {
                     if !text::white::is_white(code) {
                         return Place { at, line, column };
@@ -256,7 +241,7 @@ pub fn string_end(s: &[u8], from: Place) -> Quoted
             at = at + 1;
             column = count_up(column);
         } else {
-            match (Place { at, line, column }).bump(s) {
+            match (Place { at, line, column }).decoded(s) {
                 Step::Next { code: _, place } => {
                     at = place.at;
                     line = place.line;

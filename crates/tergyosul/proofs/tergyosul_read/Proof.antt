@@ -1,8 +1,8 @@
 use borrow.Author.Needs.{needs}
 use mathlib.Core.Path.{_∙_, ap}
 use denote.Ref.{now}
-use Rattle.sections.specs.declared.lists.Answer.{Answer}
-use Rattle.tergyosul.specs.Flat.{flat}
+use Rattle.model.specs.declared.Answer.{Answer}
+use Rattle.flat.specs.Flat.{flat}
 use Rattle.tergyosul.proofs.tergyosul_read.Statement.{statement}
 use Rattle.tergyosul.proofs.tergyosul_read.Tie as tie
 

@@ -1,5 +1,5 @@
 use mathlib.Core.Path.{refl}
-use Rattle.sections.specs.Read.{padded, conditionsOf}
+use Rattle.model.specs.Lists.{padded, conditionsOf}
 use Rattle.reader.proofs.parts.no_conditions.Statement.{statement}
 use Rattle.reader.proofs.parts.no_conditions.Tie as tie
 

@@ -1,5 +1,5 @@
 use mathlib.Core.Path.{refl}
-use Rattle.sections.specs.Read.{padded, triggersOf}
+use Rattle.model.specs.Lists.{padded, triggersOf}
 use Rattle.reader.proofs.parts.no_triggers.Statement.{statement}
 use Rattle.reader.proofs.parts.no_triggers.Tie as tie
 

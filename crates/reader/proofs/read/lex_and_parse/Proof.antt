@@ -1,5 +1,5 @@
 use borrow.Author.Needs.{needs}
-use Rattle.reader.proofs.ReadLaws.{records-fit, records-in, records-taken, lexed-yes, lexed-no}
+use Rattle.reader.proofs.ReadLaws.{records-fit, records-in, records-taken, lexed-yes, lexed-no, lexed-words}
 use Rattle.reader.proofs.read.lex_and_parse.Statement.{statement}
 use Rattle.reader.proofs.read.lex_and_parse.Tie as tie
 
@@ -16,6 +16,6 @@ lex-and-parse-spec =
     (λ c. search records-taken)
     (λ c κs. search needs)
     (λ c. search needs)
-    (λ c. (search lexed-no, search needs))
+    (λ c. (search lexed-no, search lexed-words))
     (λ c. search needs)
-    (λ c. (search lexed-yes, search needs)))
+    (λ c. (search lexed-yes, search lexed-words)))

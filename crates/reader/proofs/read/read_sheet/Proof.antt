@@ -1,11 +1,11 @@
 use borrow.Author.Needs.{needs}
-use Rattle.reader.specs.Parts.{sheetOutcome}
+use Rattle.language.specs.Read.{bySheet}
 use Rattle.reader.proofs.ReadLaws.{sheet-answer, sheet-buffer}
 use Rattle.reader.proofs.read.read_sheet.Statement.{statement}
 use Rattle.reader.proofs.read.read_sheet.Tie as tie
 
 pub read-sheet-spec : {M : Type 1} → statement M
-unfolding sheetOutcome
+unfolding bySheet
 read-sheet-spec =
     tie.close
     (tie.spec

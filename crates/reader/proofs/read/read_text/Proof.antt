@@ -1,11 +1,11 @@
 use borrow.Author.Needs.{needs}
-use Rattle.reader.specs.Parts.{textOutcome}
+use Rattle.language.specs.Read.{byText}
 use Rattle.reader.proofs.ReadLaws.{text-answer, text-buffer}
 use Rattle.reader.proofs.read.read_text.Statement.{statement}
 use Rattle.reader.proofs.read.read_text.Tie as tie
 
 pub read-text-spec : {M : Type 1} → statement M
-unfolding textOutcome
+unfolding byText
 read-text-spec =
     tie.close
     (tie.spec

@@ -2,8 +2,8 @@ use borrow.Author.Needs.{needs}
 use Prim.Native.Nat.{_-_}
 use Rattle.tokens.specs.Cursor.{tokens}
 use Rattle.tokens.specs.Record.{capacity}
-use Rattle.references.specs.Sheet.{viewOf}
-use Rattle.sections.specs.Range.{rangeOf}
+use Rattle.sheet.specs.View.{viewOf}
+use Rattle.language.specs.Range.{rangeOf}
 use Rattle.reader.proofs.SectionLaws.{And-loop, ands-begin, ands-end, ands-full, ands-stop, ands-on, ands-falls}
 use Rattle.reader.proofs.section.ands.Statement.{statement}
 use Rattle.reader.proofs.section.ands.Tie as tie
@@ -11,8 +11,8 @@ use Rattle.reader.proofs.section.ands.Tie as tie
 abbrev Inv-loop : tie.InvT-loop
 Inv-loop text words s settings list₀ p₀ word list p =
     let t = tokens text words in
-    let names = viewOf settings s in
-    And-loop t names (rangeOf words) (capacity words) list₀ (p₀ .index) list (p .index)
+    let view = viewOf settings s in
+    And-loop t view (rangeOf words) (capacity words) list₀ (p₀ .index) list (p .index)
 
 abbrev μ-loop : tie.MeasureT-loop
 μ-loop text words s settings list₀ p₀ word list p = 4 - list .count

@@ -1,5 +1,5 @@
 use borrow.Author.Needs.{needs}
-use Rattle.sections.specs.Section.{ifSection}
+use Rattle.language.specs.Section.{ifSection}
 use Rattle.reader.proofs.RuleLaws.{sections}
 use Rattle.reader.proofs.section.if_section.Statement.{statement}
 use Rattle.reader.proofs.section.if_section.Tie as tie

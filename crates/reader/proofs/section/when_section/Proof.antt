@@ -1,5 +1,5 @@
 use borrow.Author.Needs.{needs}
-use Rattle.sections.specs.Section.{whenSection}
+use Rattle.language.specs.Section.{whenSection}
 use Rattle.reader.proofs.RuleLaws.{sections}
 use Rattle.reader.proofs.section.when_section.Statement.{statement}
 use Rattle.reader.proofs.section.when_section.Tie as tie

@@ -3,10 +3,10 @@ use Prim.Native.Nat.{_-_}
 use Rattle.text.specs.Literal.{ascii}
 use Rattle.tokens.specs.Cursor.{tokens}
 use Rattle.tokens.specs.Record.{capacity}
-use Rattle.references.specs.Sheet.{viewOf}
-use Rattle.sections.specs.Range.{rangeOf}
-use Rattle.sections.specs.Trigger.{triggerAt}
-use Rattle.sections.specs.Section.{repeated}
+use Rattle.sheet.specs.View.{viewOf}
+use Rattle.language.specs.Range.{rangeOf}
+use Rattle.language.specs.Trigger.{triggerAt}
+use Rattle.language.specs.Section.{repeated}
 use Rattle.reader.proofs.SectionLaws.{When-going, whens-begin, whens-end, whens-full, whens-stop, whens-on, whens-falls}
 use Rattle.reader.proofs.section.whens.Statement.{statement}
 use Rattle.reader.proofs.section.whens.Tie as tie
@@ -14,9 +14,9 @@ use Rattle.reader.proofs.section.whens.Tie as tie
 abbrev Inv-loop : tie.InvT-loop
 Inv-loop text words s settings list₀ p₀ word list p =
     let t = tokens text words in
-    let names = viewOf settings s in
-    When-going t names (rangeOf words) (capacity words)
-    (repeated t (ascii "when") 37 (triggerAt t names (rangeOf words) (capacity words)) 4 (p₀ .index)) list (p .index)
+    let view = viewOf settings s in
+    When-going t view (rangeOf words) (capacity words)
+    (repeated t (ascii "when") 37 (triggerAt t view (rangeOf words) (capacity words)) 4 (p₀ .index)) list (p .index)
 
 abbrev μ-loop : tie.MeasureT-loop
 μ-loop text words s settings list₀ p₀ word list p = 4 - list .count

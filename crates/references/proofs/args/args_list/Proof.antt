@@ -1,7 +1,7 @@
 use borrow.Author.Needs.{needs}
 use Rattle.tokens.specs.Cursor.{tokens}
 use Rattle.tokens.specs.Record.{capacity}
-use Rattle.references.specs.Sheet.{viewOf}
+use Rattle.sheet.specs.View.{viewOf}
 use Rattle.references.specs.Args.{argsFrom, noArgs}
 use Rattle.references.proofs.ArgLaws.{Going, begin, at-limit, no-arg, last-arg, go-on}
 use Rattle.references.proofs.args.args_list.Statement.{statement}
@@ -10,8 +10,8 @@ use Rattle.references.proofs.args.args_list.Tie as tie
 abbrev Inv-loop : tie.InvT-loop
 Inv-loop text words s settings args₀ count₀ p₀ left₀ args count p left =
     let t = tokens text words in
-    let names = viewOf settings s in
-    Going t names (argsFrom t names (capacity words) noArgs 0 (p₀ .index)) left args count (p .index)
+    let view = viewOf settings s in
+    Going t view (argsFrom t view (capacity words) noArgs 0 (p₀ .index)) left args count (p .index)
 
 abbrev μ-loop : tie.MeasureT-loop
 μ-loop text words s settings args₀ count₀ p₀ left₀ args count p left = left

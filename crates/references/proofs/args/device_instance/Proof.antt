@@ -1,5 +1,5 @@
 use borrow.Author.Needs.{needs}
-use Rattle.references.specs.Limits.{lastShortAddress}
+use Rattle.model.specs.Limits.{lastShortAddress}
 use Rattle.references.specs.Args.{deviceInstance}
 use Rattle.references.proofs.ArgChain.{arguments}
 use Rattle.references.proofs.args.device_instance.Statement.{statement}

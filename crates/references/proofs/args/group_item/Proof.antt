@@ -1,5 +1,5 @@
 use borrow.Author.Needs.{needs}
-use Rattle.references.specs.Limits.{lastInstanceGroup}
+use Rattle.model.specs.Limits.{lastInstanceGroup}
 use Rattle.references.specs.Args.{groupItem}
 use Rattle.references.proofs.ArgChain.{arguments}
 use Rattle.references.proofs.args.group_item.Statement.{statement}

@@ -1,5 +1,5 @@
 use borrow.Author.Needs.{needs}
-use Rattle.references.specs.Limits.{lastInstance}
+use Rattle.model.specs.Limits.{lastInstance}
 use Rattle.references.specs.Args.{instanceItem}
 use Rattle.references.proofs.ArgChain.{arguments}
 use Rattle.references.proofs.args.instance_item.Statement.{statement}

@@ -1,12 +1,11 @@
 use borrow.Author.Needs.{needs}
-use Rattle.references.specs.Sheet.{viewOf}
 use Rattle.references.specs.Refs.{adapterNumber}
 use Rattle.references.proofs.RefChain.{refs}
 use Rattle.references.proofs.refs.adapter_number.Statement.{statement}
 use Rattle.references.proofs.refs.adapter_number.Tie as tie
 
 pub adapter-number-spec : {M : Type 1} → statement M
-unfolding adapterNumber viewOf
+unfolding adapterNumber
 adapter-number-spec =
     tie.close
     (tie.spec

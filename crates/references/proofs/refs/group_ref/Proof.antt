@@ -1,5 +1,5 @@
 use borrow.Author.Needs.{needs}
-use Rattle.references.specs.Limits.{lastGroup}
+use Rattle.model.specs.Limits.{lastGroup}
 use Rattle.references.specs.Refs.{groupRef}
 use Rattle.references.proofs.RefChain.{refs}
 use Rattle.references.proofs.refs.group_ref.Statement.{statement}

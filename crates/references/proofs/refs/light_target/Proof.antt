@@ -1,5 +1,5 @@
 use borrow.Author.Needs.{needs}
-use Rattle.references.specs.Sheet.{viewOf}
+use Rattle.sheet.specs.View.{viewOf}
 use Rattle.references.specs.Refs.{lightTarget}
 use Rattle.references.proofs.RefChain.{refs}
 use Rattle.references.proofs.refs.light_target.Statement.{statement}

@@ -1,13 +1,12 @@
 use borrow.Author.Needs.{needs}
 use Rattle.tokens.specs.Cursor.{tokens}
-use Rattle.references.specs.Sheet.{viewOf}
 use Rattle.references.specs.Refs.{referred}
 use Rattle.references.proofs.RefChain.{refs}
 use Rattle.references.proofs.refs.referred_to.Statement.{statement}
 use Rattle.references.proofs.refs.referred_to.Tie as tie
 
 pub referred-to-spec : {M : Type 1} → statement M
-unfolding referred viewOf tokens
+unfolding referred tokens
 referred-to-spec =
     tie.close
     (tie.spec

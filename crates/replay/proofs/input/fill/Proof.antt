@@ -1,28 +1,21 @@
-use Prim.Native.Nat.{ℕ, _≤_}
-use mathlib.Core.Path.{_≡_, sym}
-use mathlib.Core.List.{List}
-use lib.ListN.{length, take}
+use mathlib.Core.Path.{sym}
 use lib.Seq.{length-take-le}
 use borrow.Author.Needs.{needs}
 use Rattle.replay.proofs.input.fill.Statement.{statement}
 use Rattle.replay.proofs.input.fill.Tie as tie
 
--- the part that is lent has the length asked for
-lent : (n : ℕ) (l : List ℕ) → n ≤ length l → n ≡ length (take n l)
-lent n l h = sym (length-take-le n l h)
-
-ruleset lending = (needs, lent)
-
+-- the fourth: the part that is lent is as long as asked for
 pub fill-spec : {M : Type 1} → statement M
 fill-spec =
     tie.close
     (tie.spec
     (λ c. search needs)
     (λ c. search needs)
-    (λ c. search lending)
+    (λ c. search needs)
+    (λ c. sym (length-take-le _ _ (search needs)))
     (λ c κs. search needs)
     (λ c. search needs)
     (λ c. search needs)
-    (λ c κs. search needs)
+    (λ c. search needs)
     (λ c. search needs)
     (λ c. search needs))

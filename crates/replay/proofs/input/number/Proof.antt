@@ -1,13 +1,12 @@
-use Prim.Native.Nat.{_-_}
 use borrow.Author.Needs.{needs}
 use Rattle.replay.proofs.input.number.Statement.{statement}
 use Rattle.replay.proofs.input.number.Tie as tie
 
 abbrev Inv-loop : tie.InvT-loop
-Inv-loop stop most n₀ digits₀ b₀ n digits b = Unit {0}
+Inv-loop stop n₀ left₀ b₀ n left b = Unit {0}
 
 abbrev μ-loop : tie.MeasureT-loop
-μ-loop stop most n₀ digits₀ b₀ n digits b = 18 - digits
+μ-loop stop n₀ left₀ b₀ n left b = left
 
 pub number-spec : {M : Type 1} → statement M
 number-spec =
@@ -19,7 +18,7 @@ number-spec =
     (λ c. search needs)
     (λ c κs. search needs)
     (λ c κs. search needs)
-    (λ c κs. search needs)
+    (λ c. search needs)
     (λ c. search needs)
     (λ c. search needs)
     (λ c. search needs)

@@ -1,6 +1,6 @@
 use borrow.Author.Needs.{needs}
 use Rattle.tokens.specs.Cursor.{tokens}
-use Rattle.sections.specs.Condition.{comparisonBy, comparisonAt}
+use Rattle.language.specs.Condition.{comparisonBy, comparisonAt}
 use Rattle.sections.proofs.ConditionChain.{comparisons, no-comparisons}
 use Rattle.sections.proofs.condition.comparison_at.Statement.{statement}
 use Rattle.sections.proofs.condition.comparison_at.Tie as tie

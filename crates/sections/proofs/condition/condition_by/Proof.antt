@@ -1,5 +1,5 @@
 use borrow.Author.Needs.{needs}
-use Rattle.sections.specs.Condition.{conditionBy}
+use Rattle.language.specs.Condition.{conditionBy}
 use Rattle.sections.proofs.ConditionChain.{choices}
 use Rattle.sections.proofs.condition.condition_by.Statement.{statement}
 use Rattle.sections.proofs.condition.condition_by.Tie as tie
@@ -9,21 +9,29 @@ unfolding conditionBy
 condition-by-spec =
     tie.close
     (tie.spec
-    (λ c. search needs)
     (λ c κs. search needs)
+    (λ c. search choices depth 18 fits 9000)
     (λ c κs. search needs)
-    (λ c. search choices depth 12)
-    (λ c. search needs)
+    (λ c. search choices depth 18 fits 9000)
     (λ c κs. search needs)
+    (λ c. search choices depth 18 fits 9000)
     (λ c κs. search needs)
-    (λ c. search choices depth 12)
-    (λ c. search needs)
+    (λ c. search choices depth 18 fits 9000)
     (λ c κs. search needs)
+    (λ c. search choices depth 18 fits 9000)
     (λ c κs. search needs)
-    (λ c. search choices depth 12)
-    (λ c. search needs)
+    (λ c. search choices depth 18 fits 9000)
     (λ c κs. search needs)
+    (λ c. search choices depth 18 fits 9000)
     (λ c κs. search needs)
-    (λ c. search choices depth 12)
+    (λ c. search choices depth 18 fits 9000)
     (λ c κs. search needs)
-    (λ c. search choices depth 12))
+    (λ c. search choices depth 18 fits 9000)
+    (λ c κs. search needs)
+    (λ c. search choices depth 18 fits 9000)
+    (λ c κs. search needs)
+    (λ c. search choices depth 18 fits 9000)
+    (λ c κs. search needs)
+    (λ c. search choices depth 18 fits 9000)
+    (λ c κs. search needs)
+    (λ c. search choices depth 18 fits 9000))

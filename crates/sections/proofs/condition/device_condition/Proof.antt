@@ -1,5 +1,5 @@
 use borrow.Author.Needs.{needs}
-use Rattle.sections.specs.Condition.{deviceCondition}
+use Rattle.language.specs.Condition.{deviceCondition}
 use Rattle.sections.proofs.ConditionChain.{phrases}
 use Rattle.sections.proofs.condition.device_condition.Statement.{statement}
 use Rattle.sections.proofs.condition.device_condition.Tie as tie
@@ -9,11 +9,6 @@ unfolding deviceCondition
 device-condition-spec =
     tie.close
     (tie.spec
-    (λ c κs. search needs)
-    (λ c. search needs)
-    (λ c. search phrases depth 12)
-    (λ c. search needs)
-    (λ c. search needs)
     (λ c κs. search needs)
     (λ c. search needs)
     (λ c. search phrases depth 12)

@@ -1,5 +1,5 @@
 use borrow.Author.Needs.{needs}
-use Rattle.sections.specs.Condition.{groupCondition}
+use Rattle.language.specs.Condition.{groupCondition}
 use Rattle.sections.proofs.ConditionChain.{states}
 use Rattle.sections.proofs.condition.group_condition.Statement.{statement}
 use Rattle.sections.proofs.condition.group_condition.Tie as tie
@@ -12,7 +12,6 @@ group-condition-spec =
     (λ c κs. search needs)
     (λ c. search needs)
     (λ c. search states depth 12)
-    (λ c. search needs)
     (λ c. search needs)
     (λ c. search needs)
     (λ c κs. search needs)

@@ -1,5 +1,5 @@
 use borrow.Author.Needs.{needs}
-use Rattle.sections.specs.Condition.{hclCondition}
+use Rattle.language.specs.Condition.{hclCondition}
 use Rattle.sections.proofs.ConditionChain.{states}
 use Rattle.sections.proofs.condition.hcl_condition.Statement.{statement}
 use Rattle.sections.proofs.condition.hcl_condition.Tie as tie
@@ -10,11 +10,10 @@ hcl-condition-spec =
     tie.close
     (tie.spec
     (λ c. search needs)
+    (λ c. search needs)
     (λ c κs. search needs)
     (λ c. search needs)
     (λ c. search states depth 12)
-    (λ c. search needs)
-    (λ c. search needs)
     (λ c. search needs)
     (λ c κs. search needs)
     (λ c. search needs)

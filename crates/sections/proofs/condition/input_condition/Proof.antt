@@ -1,5 +1,5 @@
 use borrow.Author.Needs.{needs}
-use Rattle.sections.specs.Condition.{inputCondition}
+use Rattle.language.specs.Condition.{inputCondition}
 use Rattle.sections.proofs.ConditionChain.{states}
 use Rattle.sections.proofs.condition.input_condition.Statement.{statement}
 use Rattle.sections.proofs.condition.input_condition.Tie as tie

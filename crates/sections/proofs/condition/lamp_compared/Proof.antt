@@ -1,5 +1,5 @@
 use borrow.Author.Needs.{needs}
-use Rattle.sections.specs.Condition.{lampCompared}
+use Rattle.language.specs.Condition.{lampCompared}
 use Rattle.sections.proofs.ConditionChain.{compared}
 use Rattle.sections.proofs.condition.lamp_compared.Statement.{statement}
 use Rattle.sections.proofs.condition.lamp_compared.Tie as tie

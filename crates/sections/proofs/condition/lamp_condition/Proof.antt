@@ -1,5 +1,5 @@
 use borrow.Author.Needs.{needs}
-use Rattle.sections.specs.Condition.{lampCondition}
+use Rattle.language.specs.Condition.{lampCondition}
 use Rattle.sections.proofs.ConditionChain.{states}
 use Rattle.sections.proofs.condition.lamp_condition.Statement.{statement}
 use Rattle.sections.proofs.condition.lamp_condition.Tie as tie

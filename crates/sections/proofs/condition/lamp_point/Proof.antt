@@ -1,5 +1,5 @@
 use borrow.Author.Needs.{needs}
-use Rattle.sections.specs.Condition.{lampPoint}
+use Rattle.language.specs.Condition.{lampPoint}
 use Rattle.sections.proofs.ConditionChain.{compared}
 use Rattle.sections.proofs.condition.lamp_point.Statement.{statement}
 use Rattle.sections.proofs.condition.lamp_point.Tie as tie

@@ -1,5 +1,5 @@
 use borrow.Author.Needs.{needs}
-use Rattle.sections.specs.Condition.{lastFiredCondition}
+use Rattle.language.specs.Condition.{lastFiredCondition}
 use Rattle.sections.proofs.ConditionChain.{phrases}
 use Rattle.sections.proofs.condition.last_fired_condition.Statement.{statement}
 use Rattle.sections.proofs.condition.last_fired_condition.Tie as tie
@@ -9,10 +9,14 @@ unfolding lastFiredCondition
 last-fired-condition-spec =
     tie.close
     (tie.spec
+    (λ c. search needs)
     (λ c κs. search needs)
     (λ c. search needs)
     (λ c. search phrases depth 12)
     (λ c. search needs)
     (λ c κs. search needs)
+    (λ c. search needs)
+    (λ c. search phrases depth 12)
+    (λ c. search needs)
     (λ c κs. search needs)
     (λ c. search phrases depth 12))

@@ -1,5 +1,5 @@
 use borrow.Author.Needs.{needs}
-use Rattle.sections.specs.Condition.{lightThan}
+use Rattle.language.specs.Condition.{lightThan}
 use Rattle.sections.proofs.ConditionChain.{states}
 use Rattle.sections.proofs.condition.light_than.Statement.{statement}
 use Rattle.sections.proofs.condition.light_than.Tie as tie
@@ -9,6 +9,10 @@ unfolding lightThan
 light-than-spec =
     tie.close
     (tie.spec
+    (λ c. search needs)
+    (λ c κs. search needs)
+    (λ c. search needs)
+    (λ c. search states depth 12)
     (λ c. search needs)
     (λ c. search needs)
     (λ c κs. search needs)

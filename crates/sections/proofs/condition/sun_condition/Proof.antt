@@ -1,5 +1,5 @@
 use borrow.Author.Needs.{needs}
-use Rattle.sections.specs.Condition.{sunCondition}
+use Rattle.language.specs.Condition.{sunCondition}
 use Rattle.sections.proofs.ConditionChain.{states}
 use Rattle.sections.proofs.condition.sun_condition.Statement.{statement}
 use Rattle.sections.proofs.condition.sun_condition.Tie as tie
@@ -9,11 +9,6 @@ unfolding sunCondition
 sun-condition-spec =
     tie.close
     (tie.spec
-    (λ c. search needs)
-    (λ c κs. search needs)
-    (λ c. search needs)
-    (λ c. search states depth 12)
-    (λ c. search needs)
     (λ c. search needs)
     (λ c. search needs)
     (λ c κs. search needs)

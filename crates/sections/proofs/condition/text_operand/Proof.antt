@@ -1,12 +1,11 @@
 use borrow.Author.Needs.{needs}
-use Rattle.tokens.specs.Cursor.{tokens}
-use Rattle.sections.specs.Condition.{textOperand}
+use Rattle.language.specs.Condition.{textOperand}
 use Rattle.sections.proofs.ConditionChain.{operands}
 use Rattle.sections.proofs.condition.text_operand.Statement.{statement}
 use Rattle.sections.proofs.condition.text_operand.Tie as tie
 
 pub text-operand-spec : {M : Type 1} → statement M
-unfolding textOperand tokens
+unfolding textOperand
 text-operand-spec =
     tie.close
     (tie.spec

@@ -1,5 +1,5 @@
 use borrow.Author.Needs.{needs}
-use Rattle.sections.specs.Condition.{timeCondition}
+use Rattle.language.specs.Condition.{timeCondition}
 use Rattle.sections.proofs.ConditionChain.{times}
 use Rattle.sections.proofs.condition.time_condition.Statement.{statement}
 use Rattle.sections.proofs.condition.time_condition.Tie as tie

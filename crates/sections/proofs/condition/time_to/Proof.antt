@@ -1,5 +1,5 @@
 use borrow.Author.Needs.{needs}
-use Rattle.sections.specs.Condition.{timeTo}
+use Rattle.language.specs.Condition.{timeTo}
 use Rattle.sections.proofs.ConditionChain.{times}
 use Rattle.sections.proofs.condition.time_to.Statement.{statement}
 use Rattle.sections.proofs.condition.time_to.Tie as tie

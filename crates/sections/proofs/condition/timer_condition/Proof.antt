@@ -1,5 +1,5 @@
 use borrow.Author.Needs.{needs}
-use Rattle.sections.specs.Condition.{timerCondition}
+use Rattle.language.specs.Condition.{timerCondition}
 use Rattle.sections.proofs.ConditionChain.{phrases}
 use Rattle.sections.proofs.condition.timer_condition.Statement.{statement}
 use Rattle.sections.proofs.condition.timer_condition.Tie as tie
@@ -9,15 +9,6 @@ unfolding timerCondition
 timer-condition-spec =
     tie.close
     (tie.spec
-    (λ c κs. search needs)
-    (λ c. search needs)
-    (λ c. search phrases depth 12)
-    (λ c. search needs)
-    (λ c. search needs)
-    (λ c κs. search needs)
-    (λ c. search needs)
-    (λ c. search phrases depth 12)
-    (λ c. search needs)
     (λ c. search needs)
     (λ c κs. search needs)
     (λ c. search needs)

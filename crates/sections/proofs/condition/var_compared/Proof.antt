@@ -1,5 +1,5 @@
 use borrow.Author.Needs.{needs}
-use Rattle.sections.specs.Condition.{varCompared}
+use Rattle.language.specs.Condition.{varCompared}
 use Rattle.sections.proofs.ConditionChain.{compared}
 use Rattle.sections.proofs.condition.var_compared.Statement.{statement}
 use Rattle.sections.proofs.condition.var_compared.Tie as tie

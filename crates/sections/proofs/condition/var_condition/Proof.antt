@@ -1,5 +1,5 @@
 use borrow.Author.Needs.{needs}
-use Rattle.sections.specs.Condition.{varCondition}
+use Rattle.language.specs.Condition.{varCondition}
 use Rattle.sections.proofs.ConditionChain.{compared}
 use Rattle.sections.proofs.condition.var_condition.Statement.{statement}
 use Rattle.sections.proofs.condition.var_condition.Tie as tie

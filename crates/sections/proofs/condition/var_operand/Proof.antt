@@ -1,5 +1,5 @@
 use borrow.Author.Needs.{needs}
-use Rattle.sections.specs.Condition.{operandAt}
+use Rattle.language.specs.Condition.{operandAt}
 use Rattle.sections.proofs.ConditionChain.{operands}
 use Rattle.sections.proofs.condition.var_operand.Statement.{statement}
 use Rattle.sections.proofs.condition.var_operand.Tie as tie

@@ -1,5 +1,5 @@
 use borrow.Author.Needs.{needs}
-use Rattle.sections.specs.Expr.{deltaAt}
+use Rattle.language.specs.Expr.{deltaAt}
 use Rattle.sections.proofs.ValueChain.{values}
 use Rattle.sections.proofs.expr.delta_at.Statement.{statement}
 use Rattle.sections.proofs.expr.delta_at.Tie as tie

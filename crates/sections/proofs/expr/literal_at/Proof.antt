@@ -1,5 +1,5 @@
 use borrow.Author.Needs.{needs}
-use Rattle.sections.specs.Expr.{literalAt}
+use Rattle.language.specs.Expr.{literalAt}
 use Rattle.sections.proofs.ValueChain.{values}
 use Rattle.sections.proofs.expr.literal_at.Statement.{statement}
 use Rattle.sections.proofs.expr.literal_at.Tie as tie

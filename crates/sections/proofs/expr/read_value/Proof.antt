@@ -1,5 +1,5 @@
 use borrow.Author.Needs.{needs}
-use Rattle.sections.specs.Expr.{readValue}
+use Rattle.language.specs.Expr.{readValue}
 use Rattle.sections.proofs.ValueChain.{values}
 use Rattle.sections.proofs.expr.read_value.Statement.{statement}
 use Rattle.sections.proofs.expr.read_value.Tie as tie

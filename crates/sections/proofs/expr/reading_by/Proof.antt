@@ -1,6 +1,6 @@
 use borrow.Author.Needs.{needs}
-use Rattle.sections.specs.Expr.{readingBy}
-use Rattle.sections.proofs.ValueChain.{choices}
+use Rattle.language.specs.Expr.{readingBy}
+use Rattle.sections.proofs.ValueChain.{families}
 use Rattle.sections.proofs.expr.reading_by.Statement.{statement}
 use Rattle.sections.proofs.expr.reading_by.Tie as tie
 
@@ -9,17 +9,17 @@ unfolding readingBy
 reading-by-spec =
     tie.close
     (tie.spec
-    (λ c. search needs)
     (λ c κs. search needs)
+    (λ c. search families depth 18)
     (λ c κs. search needs)
-    (λ c. search choices depth 12)
-    (λ c. search needs)
+    (λ c. search families depth 18)
     (λ c κs. search needs)
+    (λ c. search families depth 18)
     (λ c κs. search needs)
-    (λ c. search choices depth 12)
-    (λ c. search needs)
+    (λ c. search families depth 18)
     (λ c κs. search needs)
+    (λ c. search families depth 18)
     (λ c κs. search needs)
-    (λ c. search choices depth 12)
+    (λ c. search families depth 18)
     (λ c κs. search needs)
-    (λ c. search choices depth 12))
+    (λ c. search families depth 18))

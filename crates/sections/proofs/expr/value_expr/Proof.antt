@@ -1,5 +1,5 @@
 use borrow.Author.Needs.{needs}
-use Rattle.sections.specs.Expr.{valueAt}
+use Rattle.language.specs.Expr.{valueAt}
 use Rattle.sections.proofs.ValueChain.{values}
 use Rattle.sections.proofs.expr.value_expr.Statement.{statement}
 use Rattle.sections.proofs.expr.value_expr.Tie as tie

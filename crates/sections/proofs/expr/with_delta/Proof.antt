@@ -1,5 +1,5 @@
 use borrow.Author.Needs.{needs}
-use Rattle.sections.specs.Expr.{withDelta}
+use Rattle.language.specs.Expr.{withDelta}
 use Rattle.sections.proofs.ValueChain.{values}
 use Rattle.sections.proofs.expr.with_delta.Statement.{statement}
 use Rattle.sections.proofs.expr.with_delta.Tie as tie

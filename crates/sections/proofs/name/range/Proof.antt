@@ -1,5 +1,5 @@
 use borrow.Author.Needs.{needs}
-use Rattle.sections.specs.Range.{rangeOf}
+use Rattle.language.specs.Range.{rangeOf}
 use Rattle.sections.proofs.ValueChain.{range-made}
 use Rattle.sections.proofs.name.range.Statement.{statement}
 use Rattle.sections.proofs.name.range.Tie as tie

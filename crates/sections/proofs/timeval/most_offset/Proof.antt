@@ -1,4 +1,4 @@
-use Rattle.sections.specs.Timeval.{mostOffset}
+use Rattle.language.specs.Timeval.{mostOffset}
 use Rattle.sections.proofs.timeval.most_offset.Statement.{statement}
 use Rattle.sections.proofs.timeval.most_offset.Tie as tie
 

@@ -1,5 +1,5 @@
 use borrow.Author.Needs.{needs}
-use Rattle.sections.specs.Timeval.{offsetAt}
+use Rattle.language.specs.Timeval.{offsetAt}
 use Rattle.sections.proofs.ValueChain.{bounds}
 use Rattle.sections.proofs.timeval.offset_at.Statement.{statement}
 use Rattle.sections.proofs.timeval.offset_at.Tie as tie

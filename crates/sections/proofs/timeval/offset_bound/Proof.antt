@@ -1,5 +1,5 @@
 use borrow.Author.Needs.{needs}
-use Rattle.sections.specs.Timeval.{offsetBound}
+use Rattle.language.specs.Timeval.{offsetBound}
 use Rattle.sections.proofs.ValueChain.{offsets}
 use Rattle.sections.proofs.timeval.offset_bound.Statement.{statement}
 use Rattle.sections.proofs.timeval.offset_bound.Tie as tie

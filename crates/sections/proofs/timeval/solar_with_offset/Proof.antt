@@ -1,5 +1,5 @@
 use borrow.Author.Needs.{needs}
-use Rattle.sections.specs.Timeval.{solarAt}
+use Rattle.language.specs.Timeval.{solarAt}
 use Rattle.sections.proofs.ValueChain.{bounds}
 use Rattle.sections.proofs.timeval.solar_with_offset.Statement.{statement}
 use Rattle.sections.proofs.timeval.solar_with_offset.Tie as tie
@@ -9,7 +9,6 @@ unfolding solarAt
 solar-with-offset-spec =
     tie.close
     (tie.spec
-    (λ c. search needs)
     (λ c. search needs)
     (λ c κs. search needs)
     (λ c. search needs)

@@ -1,5 +1,5 @@
 use borrow.Author.Needs.{needs}
-use Rattle.sections.specs.Timeval.{timeBound}
+use Rattle.language.specs.Timeval.{timeBound}
 use Rattle.sections.proofs.ValueChain.{bounds}
 use Rattle.sections.proofs.timeval.time_bound.Statement.{statement}
 use Rattle.sections.proofs.timeval.time_bound.Tie as tie

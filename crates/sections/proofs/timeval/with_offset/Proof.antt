@@ -1,5 +1,5 @@
 use borrow.Author.Needs.{needs}
-use Rattle.sections.specs.Timeval.{withOffset}
+use Rattle.language.specs.Timeval.{withOffset}
 use Rattle.sections.proofs.ValueChain.{bounds}
 use Rattle.sections.proofs.timeval.with_offset.Statement.{statement}
 use Rattle.sections.proofs.timeval.with_offset.Tie as tie

@@ -1,5 +1,5 @@
 use borrow.Author.Needs.{needs}
-use Rattle.sections.specs.Trigger.{atBound}
+use Rattle.language.specs.Trigger.{atBound}
 use Rattle.sections.proofs.TriggerChain.{times}
 use Rattle.sections.proofs.trigger.at_bound.Statement.{statement}
 use Rattle.sections.proofs.trigger.at_bound.Tie as tie

@@ -1,5 +1,5 @@
 use borrow.Author.Needs.{needs}
-use Rattle.sections.specs.Trigger.{atTrigger}
+use Rattle.language.specs.Trigger.{atTrigger}
 use Rattle.sections.proofs.TriggerChain.{times}
 use Rattle.sections.proofs.trigger.at_trigger.Statement.{statement}
 use Rattle.sections.proofs.trigger.at_trigger.Tie as tie

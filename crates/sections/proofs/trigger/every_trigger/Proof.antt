@@ -1,5 +1,5 @@
 use borrow.Author.Needs.{needs}
-use Rattle.sections.specs.Trigger.{everyTrigger}
+use Rattle.language.specs.Trigger.{everyTrigger}
 use Rattle.sections.proofs.TriggerChain.{times}
 use Rattle.sections.proofs.trigger.every_trigger.Statement.{statement}
 use Rattle.sections.proofs.trigger.every_trigger.Tie as tie

@@ -1,6 +1,6 @@
 use borrow.Author.Needs.{needs}
-use Rattle.sections.specs.Trigger.{hclTrigger}
-use Rattle.sections.proofs.TriggerChain.{states}
+use Rattle.language.specs.Trigger.{hclTrigger}
+use Rattle.sections.proofs.TriggerChain.{changes}
 use Rattle.sections.proofs.trigger.hcl_trigger.Statement.{statement}
 use Rattle.sections.proofs.trigger.hcl_trigger.Tie as tie
 
@@ -10,15 +10,14 @@ hcl-trigger-spec =
     tie.close
     (tie.spec
     (λ c. search needs)
-    (λ c κs. search needs)
-    (λ c. search needs)
-    (λ c. search states depth 12)
-    (λ c. search needs)
-    (λ c. search needs)
     (λ c. search needs)
     (λ c κs. search needs)
     (λ c. search needs)
-    (λ c. search states depth 12)
+    (λ c. search changes depth 12)
     (λ c. search needs)
     (λ c κs. search needs)
-    (λ c. search states depth 12))
+    (λ c. search needs)
+    (λ c. search changes depth 12)
+    (λ c. search needs)
+    (λ c κs. search needs)
+    (λ c. search changes depth 12))

@@ -1,5 +1,5 @@
 use borrow.Author.Needs.{needs}
-use Rattle.sections.specs.Trigger.{httpTrigger}
+use Rattle.language.specs.Trigger.{httpTrigger}
 use Rattle.sections.proofs.TriggerChain.{phrases}
 use Rattle.sections.proofs.trigger.http_trigger.Statement.{statement}
 use Rattle.sections.proofs.trigger.http_trigger.Tie as tie

@@ -1,6 +1,6 @@
 use borrow.Author.Needs.{needs}
-use Rattle.sections.specs.Trigger.{inputBecomes}
-use Rattle.sections.proofs.TriggerChain.{states}
+use Rattle.language.specs.Trigger.{inputBecomes}
+use Rattle.sections.proofs.TriggerChain.{changes}
 use Rattle.sections.proofs.trigger.input_becomes.Statement.{statement}
 use Rattle.sections.proofs.trigger.input_becomes.Tie as tie
 
@@ -11,13 +11,12 @@ input-becomes-spec =
     (tie.spec
     (λ c κs. search needs)
     (λ c. search needs)
-    (λ c. search states depth 12)
-    (λ c. search needs)
+    (λ c. search changes depth 12)
     (λ c. search needs)
     (λ c. search needs)
     (λ c κs. search needs)
     (λ c. search needs)
-    (λ c. search states depth 12)
+    (λ c. search changes depth 12)
     (λ c. search needs)
     (λ c κs. search needs)
-    (λ c. search states depth 12))
+    (λ c. search changes depth 12))

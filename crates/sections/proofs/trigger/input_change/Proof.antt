@@ -1,5 +1,5 @@
 use borrow.Author.Needs.{needs}
-use Rattle.sections.specs.Trigger.{inputChange}
+use Rattle.language.specs.Trigger.{inputChange}
 use Rattle.sections.proofs.TriggerChain.{inputs}
 use Rattle.sections.proofs.trigger.input_change.Statement.{statement}
 use Rattle.sections.proofs.trigger.input_change.Tie as tie

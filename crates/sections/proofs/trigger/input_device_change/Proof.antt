@@ -1,6 +1,5 @@
-use borrow.Author.Needs.{needs}
-use Rattle.sections.specs.Trigger.{inputDeviceChange}
-use Rattle.sections.proofs.TriggerChain.{phrases}
+use Rattle.text.proofs.Tests.{tests}
+use Rattle.language.specs.Trigger.{inputDeviceChange}
 use Rattle.sections.proofs.trigger.input_device_change.Statement.{statement}
 use Rattle.sections.proofs.trigger.input_device_change.Tie as tie
 
@@ -9,15 +8,5 @@ unfolding inputDeviceChange
 input-device-change-spec =
     tie.close
     (tie.spec
-    (λ c. search needs)
-    (λ c κs. search needs)
-    (λ c. search needs)
-    (λ c. search needs)
-    (λ c κs. search needs)
-    (λ c. search needs)
-    (λ c. search phrases depth 12)
-    (λ c. search needs)
-    (λ c. search phrases depth 12)
-    (λ c. search needs)
-    (λ c κs. search needs)
-    (λ c. search phrases depth 12))
+    (λ c. search tests)
+    (λ c. search tests))

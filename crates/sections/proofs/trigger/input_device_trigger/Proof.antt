@@ -1,5 +1,5 @@
 use borrow.Author.Needs.{needs}
-use Rattle.sections.specs.Trigger.{inputDeviceTrigger}
+use Rattle.language.specs.Trigger.{inputDeviceTrigger}
 use Rattle.sections.proofs.TriggerChain.{changes}
 use Rattle.sections.proofs.trigger.input_device_trigger.Statement.{statement}
 use Rattle.sections.proofs.trigger.input_device_trigger.Tie as tie
@@ -9,6 +9,12 @@ unfolding inputDeviceTrigger
 input-device-trigger-spec =
     tie.close
     (tie.spec
+    (λ c κs. search needs)
+    (λ c. search needs)
+    (λ c. search changes depth 12)
+    (λ c. search needs)
+    (λ c. search needs)
+    (λ c. search needs)
     (λ c κs. search needs)
     (λ c. search needs)
     (λ c. search changes depth 12)

@@ -1,5 +1,5 @@
 use borrow.Author.Needs.{needs}
-use Rattle.sections.specs.Trigger.{inputEvent}
+use Rattle.language.specs.Trigger.{inputEvent}
 use Rattle.sections.proofs.TriggerChain.{inputs}
 use Rattle.sections.proofs.trigger.input_event.Statement.{statement}
 use Rattle.sections.proofs.trigger.input_event.Tie as tie

@@ -1,5 +1,5 @@
 use borrow.Author.Needs.{needs}
-use Rattle.sections.specs.Trigger.{inputTrigger}
+use Rattle.language.specs.Trigger.{inputTrigger}
 use Rattle.sections.proofs.TriggerChain.{inputs}
 use Rattle.sections.proofs.trigger.input_trigger.Statement.{statement}
 use Rattle.sections.proofs.trigger.input_trigger.Tie as tie

@@ -1,6 +1,6 @@
 use borrow.Author.Needs.{needs}
-use Rattle.sections.specs.Trigger.{lampChange}
-use Rattle.sections.proofs.TriggerChain.{states}
+use Rattle.language.specs.Trigger.{lampChange}
+use Rattle.sections.proofs.TriggerChain.{changes}
 use Rattle.sections.proofs.trigger.lamp_change.Statement.{statement}
 use Rattle.sections.proofs.trigger.lamp_change.Tie as tie
 
@@ -13,13 +13,12 @@ lamp-change-spec =
     (λ c κs. search needs)
     (λ c. search needs)
     (λ c. search needs)
-    (λ c. search needs)
     (λ c κs. search needs)
     (λ c. search needs)
-    (λ c. search states depth 12)
+    (λ c. search changes depth 12)
     (λ c. search needs)
     (λ c κs. search needs)
-    (λ c. search states depth 12)
+    (λ c. search changes depth 12)
     (λ c. search needs)
     (λ c κs. search needs)
-    (λ c. search states depth 12))
+    (λ c. search changes depth 12))

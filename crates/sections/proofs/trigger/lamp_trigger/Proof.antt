@@ -1,5 +1,5 @@
 use borrow.Author.Needs.{needs}
-use Rattle.sections.specs.Trigger.{lampTrigger}
+use Rattle.language.specs.Trigger.{lampTrigger}
 use Rattle.sections.proofs.TriggerChain.{changes}
 use Rattle.sections.proofs.trigger.lamp_trigger.Statement.{statement}
 use Rattle.sections.proofs.trigger.lamp_trigger.Tie as tie

@@ -1,7 +1,7 @@
 use borrow.Author.Needs.{needs}
-use Rattle.references.specs.Limits.{lastLevel}
-use Rattle.sections.specs.Trigger.{levelCross}
-use Rattle.sections.proofs.TriggerChain.{states}
+use Rattle.model.specs.Limits.{lastLevel}
+use Rattle.language.specs.Trigger.{levelCross}
+use Rattle.sections.proofs.TriggerChain.{changes}
 use Rattle.sections.proofs.trigger.level_cross.Statement.{statement}
 use Rattle.sections.proofs.trigger.level_cross.Tie as tie
 
@@ -11,14 +11,18 @@ level-cross-spec =
     tie.close
     (tie.spec
     (λ c. search needs)
+    (λ c κs. search needs)
+    (λ c. search needs)
+    (λ c. search changes depth 12)
+    (λ c. search needs)
     (λ c. search needs)
     (λ c κs. search needs)
     (λ c. search needs)
-    (λ c. search states depth 12)
+    (λ c. search changes depth 12)
     (λ c. search needs)
     (λ c κs. search needs)
     (λ c. search needs)
-    (λ c. search states depth 12)
+    (λ c. search changes depth 12)
     (λ c. search needs)
     (λ c κs. search needs)
-    (λ c. search states depth 12))
+    (λ c. search changes depth 12))

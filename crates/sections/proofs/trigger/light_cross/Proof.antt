@@ -1,7 +1,7 @@
 use borrow.Author.Needs.{needs}
-use Rattle.references.specs.Limits.{lastEventInformation}
-use Rattle.sections.specs.Trigger.{lightCross}
-use Rattle.sections.proofs.TriggerChain.{states}
+use Rattle.model.specs.Limits.{lastEventInformation}
+use Rattle.language.specs.Trigger.{lightCross}
+use Rattle.sections.proofs.TriggerChain.{changes}
 use Rattle.sections.proofs.trigger.light_cross.Statement.{statement}
 use Rattle.sections.proofs.trigger.light_cross.Tie as tie
 
@@ -11,19 +11,14 @@ light-cross-spec =
     tie.close
     (tie.spec
     (λ c. search needs)
-    (λ c κs. search needs)
-    (λ c. search needs)
-    (λ c. search states depth 12)
-    (λ c. search needs)
-    (λ c. search needs)
     (λ c. search needs)
     (λ c κs. search needs)
     (λ c. search needs)
-    (λ c. search states depth 12)
+    (λ c. search changes depth 12)
     (λ c. search needs)
     (λ c κs. search needs)
     (λ c. search needs)
-    (λ c. search states depth 12)
+    (λ c. search changes depth 12)
     (λ c. search needs)
     (λ c κs. search needs)
-    (λ c. search states depth 12))
+    (λ c. search changes depth 12))

@@ -1,6 +1,6 @@
 use borrow.Author.Needs.{needs}
-use Rattle.sections.specs.Trigger.{positionChange}
-use Rattle.sections.proofs.TriggerChain.{phrases}
+use Rattle.language.specs.Trigger.{positionChange}
+use Rattle.sections.proofs.TriggerChain.{changes}
 use Rattle.sections.proofs.trigger.position_change.Statement.{statement}
 use Rattle.sections.proofs.trigger.position_change.Tie as tie
 
@@ -12,6 +12,6 @@ position-change-spec =
     (λ c. search needs)
     (λ c κs. search needs)
     (λ c. search needs)
-    (λ c. search phrases depth 12)
+    (λ c. search changes depth 12)
     (λ c. search needs)
-    (λ c. search phrases depth 12))
+    (λ c. search changes depth 12))

@@ -1,6 +1,6 @@
 use borrow.Author.Needs.{needs}
-use Rattle.sections.specs.Trigger.{propertyTrigger}
-use Rattle.sections.proofs.TriggerChain.{choices}
+use Rattle.language.specs.Trigger.{propertyTrigger}
+use Rattle.sections.proofs.TriggerChain.{inputs}
 use Rattle.sections.proofs.trigger.property_trigger.Statement.{statement}
 use Rattle.sections.proofs.trigger.property_trigger.Tie as tie
 
@@ -9,13 +9,7 @@ unfolding propertyTrigger
 property-trigger-spec =
     tie.close
     (tie.spec
-    (λ c. search needs)
     (λ c κs. search needs)
+    (λ c. search inputs depth 12)
     (λ c κs. search needs)
-    (λ c. search choices depth 12)
-    (λ c. search needs)
-    (λ c κs. search needs)
-    (λ c κs. search needs)
-    (λ c. search choices depth 12)
-    (λ c κs. search needs)
-    (λ c. search choices depth 12))
+    (λ c. search inputs depth 12))

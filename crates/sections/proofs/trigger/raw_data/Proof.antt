@@ -1,6 +1,6 @@
 use borrow.Author.Needs.{needs}
-use Rattle.references.specs.Limits.{lastEventInformation}
-use Rattle.sections.specs.Trigger.{rawData}
+use Rattle.model.specs.Limits.{lastEventInformation}
+use Rattle.language.specs.Trigger.{rawData}
 use Rattle.sections.proofs.TriggerChain.{events}
 use Rattle.sections.proofs.trigger.raw_data.Statement.{statement}
 use Rattle.sections.proofs.trigger.raw_data.Tie as tie

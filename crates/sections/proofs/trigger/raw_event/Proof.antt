@@ -1,5 +1,5 @@
 use borrow.Author.Needs.{needs}
-use Rattle.sections.specs.Trigger.{rawEvent}
+use Rattle.language.specs.Trigger.{rawEvent}
 use Rattle.sections.proofs.TriggerChain.{events}
 use Rattle.sections.proofs.trigger.raw_event.Statement.{statement}
 use Rattle.sections.proofs.trigger.raw_event.Tie as tie

@@ -1,5 +1,5 @@
 use borrow.Author.Needs.{needs}
-use Rattle.sections.specs.Trigger.{sceneClosed}
+use Rattle.language.specs.Trigger.{sceneClosed}
 use Rattle.sections.proofs.TriggerChain.{scenes}
 use Rattle.sections.proofs.trigger.scene_closed.Statement.{statement}
 use Rattle.sections.proofs.trigger.scene_closed.Tie as tie

@@ -1,6 +1,6 @@
 use borrow.Author.Needs.{needs}
-use Rattle.references.specs.Limits.{lastScene}
-use Rattle.sections.specs.Trigger.{sceneTrigger}
+use Rattle.model.specs.Limits.{lastScene}
+use Rattle.language.specs.Trigger.{sceneTrigger}
 use Rattle.sections.proofs.TriggerChain.{scenes}
 use Rattle.sections.proofs.trigger.scene_trigger.Statement.{statement}
 use Rattle.sections.proofs.trigger.scene_trigger.Tie as tie

@@ -1,5 +1,5 @@
 use borrow.Author.Needs.{needs}
-use Rattle.sections.specs.Words.{propertyWord}
+use Rattle.language.specs.Words.{propertyWord}
 use Rattle.sections.proofs.ValueChain.{indexes}
 use Rattle.sections.proofs.words.property_word.Statement.{statement}
 use Rattle.sections.proofs.words.property_word.Tie as tie

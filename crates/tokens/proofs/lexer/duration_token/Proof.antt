@@ -5,7 +5,7 @@ use borrow.Author.Needs.{needs}
 use Rattle.text.specs.Utf8.{chars}
 use Rattle.text.specs.Part.{partOf}
 use Rattle.text.specs.declared.place.Place.{Place}
-use Rattle.tokens.specs.Ascii.{isAlpha}
+use Rattle.text.specs.Ascii.{isAlpha}
 use Rattle.tokens.specs.Scan.{passed}
 use Rattle.tokens.specs.Duration.{unitOf}
 use Rattle.tokens.specs.Token.{durationBy, duration}

@@ -115,7 +115,7 @@ loop-again c =
     go-on
     (b .before .before .before .before .before .before .loop .inv)
     (b .before .before .before .before .before .skip-trivia .ensures)
-    (b .before .before .before .before .peek .ensures)
+    (b .before .before .before .before .bump .ensures)
     (b .before .before .step .given .1)
     (b .if1 .left)
     (c .before .before .before .before .before .before .before .before .token-at .ensures)

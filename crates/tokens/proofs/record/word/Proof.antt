@@ -1,8 +1,6 @@
 use Rattle.text.proofs.Tests.{steps}
-use denote.Ref.{now}
 use borrow.Author.Needs.{needs}
 use Rattle.tokens.specs.Record.{wordAt, capacity}
-use Rattle.tokens.proofs.RecordLaws.{word-past}
 use Rattle.tokens.proofs.record.word.Statement.{statement}
 use Rattle.tokens.proofs.record.word.Tie as tie
 
@@ -13,8 +11,6 @@ word-spec =
     (tie.spec
     (λ c. search steps)
     (λ c. search needs)
-    (λ c. search needs)
-    (λ c. let a = c .before .before .args in word-past (now (a .words)) (a .i) (a .k) (c .if2 .taken))
     (λ c. search needs)
     (λ c. search needs)
     (λ c. search needs)

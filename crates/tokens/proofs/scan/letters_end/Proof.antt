@@ -3,7 +3,7 @@ use Prim.Native.Nat.{_-_}
 use lib.ListN.{length}
 use borrow.Author.Needs.{needs}
 use Rattle.text.specs.Utf8.{chars}
-use Rattle.tokens.specs.Ascii.{isAlpha}
+use Rattle.text.specs.Ascii.{isAlpha}
 use Rattle.tokens.specs.Scan.{passed}
 use Rattle.tokens.proofs.ScanLaws.{place, scans}
 use Rattle.tokens.proofs.scan.letters_end.Statement.{statement}

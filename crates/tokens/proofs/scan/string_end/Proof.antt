@@ -36,9 +36,9 @@ string-end-spec =
     (λ c. search scans)
     (λ c κs. search needs)
     (λ c. search needs)
-    (λ c. less-left _ _ (c .before .before .before .bump .ensures) (c .before .place .given .1))
+    (λ c. less-left _ _ (c .before .before .before .decoded .ensures) (c .before .place .given .1))
     (λ c.
-    at-next _ _ (c .before .before .before .bump .ensures) (c .before .before .before .before .before .before .loop .inv) (c .before .place .given .1)
+    at-next _ _ (c .before .before .before .decoded .ensures) (c .before .before .before .before .before .before .loop .inv) (c .before .place .given .1)
     (quoted-wide _ _ _ _ (c .before .before .before .before .before .octet .ensures) (c .before .before .before .before .if1 .left)))
     (λ c. search needs)
-    (λ c. at-stop _ _ (c .before .before .bump .ensures) (c .before .before .before .before .before .loop .inv) (c .enum-told .given .1) (λ t. quoted-stop t)))
+    (λ c. at-stop _ _ (c .before .before .decoded .ensures) (c .before .before .before .before .before .loop .inv) (c .enum-told .given .1) (λ t. quoted-stop t)))

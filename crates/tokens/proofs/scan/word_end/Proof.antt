@@ -4,7 +4,7 @@ use lib.ListN.{length}
 use borrow.Author.Needs.{needs}
 use Rattle.text.specs.Utf8.{chars}
 use Rattle.text.specs.Place.{counted}
-use Rattle.tokens.specs.Ascii.{isWordPart}
+use Rattle.text.specs.Ascii.{isWordPart}
 use Rattle.tokens.specs.Scan.{passed}
 use Rattle.tokens.proofs.ScanLaws.{place, counted-later, words-printed, passed-begin, passed-last, passed-on, scans}
 use Rattle.tokens.proofs.scan.word_end.Statement.{statement}

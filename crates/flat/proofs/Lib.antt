@@ -1,0 +1,4 @@
+mod EntryLaws
+mod PartLaws
+mod RowLaws
+mod SignedLaws

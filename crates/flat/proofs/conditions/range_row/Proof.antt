@@ -1,0 +1,14 @@
+use borrow.Author.Needs.{needs}
+use Rattle.flat.specs.Flat.{conditionWords}
+use Rattle.flat.proofs.RowLaws.{conditions}
+use Rattle.flat.proofs.conditions.range_row.Statement.{statement}
+use Rattle.flat.proofs.conditions.range_row.Tie as tie
+
+pub range-row-spec : {M : Type 1} → statement M
+unfolding conditionWords
+range-row-spec =
+    tie.close
+    (tie.spec
+    (λ c κs. search needs)
+    (λ c κs. search needs)
+    (λ c. search conditions depth 16))

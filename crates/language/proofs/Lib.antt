@@ -1,0 +1,11 @@
+pub mod WordLaws
+pub mod TimeLaws
+pub mod ExprLaws
+pub mod TriggerSound
+pub mod TriggerComplete
+pub mod ConditionSound
+pub mod ConditionComplete
+pub mod TextLaws
+pub mod RefusalLaws
+pub mod Theorem
+pub mod Pairs

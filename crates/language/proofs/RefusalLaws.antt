@@ -1,0 +1,117 @@
+-- Every refusal of a rule has one of document 01's numbers, 20 to 41. The searches take apart what the definitions of a form are built of.
+use Prim.Native.Nat.{ℕ, zero, suc}
+use mathlib.Core.Path.{_≡_}
+use mathlib.Core.Bool.{true}
+use mathlib.Core.List.{List, [], _∷_}
+use Rattle.text.specs.Choice.{within}
+use Rattle.tokens.specs.Result.{Res}
+use Rattle.tokens.specs.Cursor.{Tok}
+use Rattle.tokens.specs.Phrase.{choiceBy, choiceAt, takeWords, phraseAt, eitherAt, pointChoice, phraseChoice, pointPhrase}
+use Rattle.sheet.specs.View.{View}
+use Rattle.references.proofs.NumberLaws.{Refuses, refusals}
+use Rattle.model.specs.declared.Name.{Name}
+use Rattle.model.specs.declared.TimeBound.{TimeBound}
+use Rattle.model.specs.declared.TimeBound.the-variants.{Clock, Solar}
+use Rattle.language.specs.Words.{namedPhrase, targetFor, propertyWord}
+use Rattle.language.specs.Timeval.{offsetBound, offsetAt, withOffset, solarAt, timeBound}
+use Rattle.language.specs.Expr.{lampReading, groupReading, inputReading, timeReading, sunReading, eventReading, varReading, readingBy, readingAt, literalAt, deltaAt, withDelta, readValue, valueAt}
+use Rattle.language.specs.Trigger.{timerTrigger, ruleTrigger, controllerTrigger, httpTrigger, everyTrigger, atBound, atTrigger, sceneClosed, sceneTrigger, deviceTrigger, groupTrigger, hclTrigger, levelCross, lampChange, lampTrigger, inputDeviceTrigger, rawData, rawEvent, eventAt, inputEvent, inputBecomes, lightCross, positionChange, propertyTrigger, pointTrigger, inputChange, inputTrigger, triggerBy, triggerAt}
+use Rattle.language.specs.Condition.{comparisonBy, comparisonAt, controllerCondition, timerCondition, ruleCondition, lastFiredCondition, deviceCondition, sunCondition, timeTo, timeCondition, groupCondition, hclCondition, lampJudged, lampCompared, lampPoint, lampState, lampCondition, lightThan, inputState, inputCondition, textOperand, operandAt, varCompared, varCondition, conditionBy, conditionAt}
+use Rattle.language.specs.Section.{repeated, whenSection, ifSection, atEnd, ruleAt}
+
+-- the steps that several forms share, and time bounds
+module _ (t : ℕ → Tok) where
+  words-refuse : (ws : List (List ℕ)) (i : ℕ) → Refuses (takeWords t ws i)
+  unfolding takeWords
+  words-refuse [] i = search refusals
+  words-refuse (w ∷ ws) i = search (refusals, words-refuse ws)
+
+  phrase-refuses : (list : List ℕ) (i : ℕ) → Refuses (phraseAt t list i)
+  unfolding phraseAt
+  phrase-refuses list i = search (refusals, words-refuse)
+
+  by-refuses : (list : List ℕ) (number i j : ℕ) (w : List ℕ) → within 20 41 number ≡ true → Refuses (choiceBy list number i j w)
+  unfolding choiceBy
+  by-refuses list number i j w e = search refusals
+
+  choice-refuses : (list : List ℕ) (number i : ℕ) → within 20 41 number ≡ true → Refuses (choiceAt t list number i)
+  unfolding choiceAt
+  choice-refuses list number i e = search (refusals, by-refuses)
+
+  either-refuses : (first second : List ℕ) (i : ℕ) → Refuses (eitherAt t first second i)
+  unfolding eitherAt
+  either-refuses first second i = search (refusals, phrase-refuses)
+
+  point-choice-refuses : (list : List ℕ) (i : ℕ) → Refuses (pointChoice t list i)
+  unfolding pointChoice
+  point-choice-refuses list i = search (refusals, choice-refuses)
+
+  phrase-choice-refuses : (phrase list : List ℕ) (i : ℕ) → Refuses (phraseChoice t phrase list i)
+  unfolding phraseChoice
+  phrase-choice-refuses phrase list i = search (refusals, phrase-refuses, choice-refuses)
+
+  point-phrase-refuses : (list : List ℕ) (i : ℕ) → Refuses (pointPhrase t list i)
+  unfolding pointPhrase
+  point-phrase-refuses list i = search (refusals, phrase-refuses)
+
+  named-refuses : (list : List ℕ) (i : ℕ) → Refuses (namedPhrase t list i)
+  unfolding namedPhrase
+  named-refuses list i = search (refusals, phrase-refuses)
+
+  for-refuses : (view : View) (i : ℕ) → Refuses (targetFor t view i)
+  unfolding targetFor
+  for-refuses view i = search refusals
+
+  bound-refuses : (i : ℕ) → Refuses (timeBound t i)
+  unfolding timeBound solarAt withOffset offsetAt offsetBound
+  bound-refuses i = search (refusals, choice-refuses) depth 9
+
+  at-refuses : (i : ℕ) (b : TimeBound) → Refuses (atBound t i b)
+  unfolding atBound
+  at-refuses i (Clock m) = search refusals
+  at-refuses i (Solar event offset) = search refusals
+
+ruleset forms = (
+  refusals,
+  phrase-refuses,
+  choice-refuses,
+  either-refuses,
+  point-choice-refuses,
+  phrase-choice-refuses,
+  point-phrase-refuses,
+  named-refuses,
+  for-refuses,
+  bound-refuses,
+  at-refuses,
+)
+
+-- VALUE, triggers and conditions: a new form's definitions join the `unfolding` line
+module _ (t : ℕ → Tok) (view : View) (range : ℕ → Name) (fuel : ℕ) where
+  value-refuses : (i : ℕ) → Refuses (valueAt t view range fuel i)
+  unfolding valueAt readValue withDelta deltaAt literalAt readingAt readingBy varReading eventReading sunReading timeReading inputReading
+      groupReading lampReading
+  value-refuses i = search forms depth 30
+
+  trigger-refuses : (i : ℕ) → Refuses (triggerAt t view range fuel i)
+  unfolding triggerAt triggerBy inputTrigger inputChange pointTrigger propertyTrigger positionChange lightCross inputBecomes inputEvent
+      eventAt rawEvent rawData inputDeviceTrigger lampTrigger lampChange levelCross hclTrigger groupTrigger deviceTrigger sceneTrigger
+      sceneClosed atTrigger everyTrigger httpTrigger controllerTrigger ruleTrigger timerTrigger
+  trigger-refuses i = search forms depth 40
+
+  condition-refuses : (i : ℕ) → Refuses (conditionAt t view range fuel i)
+  unfolding conditionAt conditionBy varCondition varCompared operandAt textOperand inputCondition inputState lightThan lampCondition
+      lampState lampPoint propertyWord lampCompared lampJudged hclCondition groupCondition timeCondition timeTo sunCondition
+      deviceCondition lastFiredCondition ruleCondition timerCondition controllerCondition comparisonAt comparisonBy
+  condition-refuses i = search (forms, value-refuses) depth 40 fits 9000
+
+-- a repeated form refuses as the form does, or with its own number
+repeated-refuses : {A : Type 0} (t : ℕ → Tok) (word : List ℕ) (number : ℕ) (form : ℕ → Res A) → within 20 41 number ≡ true →
+    ((i : ℕ) → Refuses (form i)) → (most i : ℕ) → Refuses (repeated t word number form most i)
+unfolding repeated
+repeated-refuses t word number form e h zero i = search refusals
+repeated-refuses t word number form e h (suc most) i = search (refusals, repeated-refuses t word number form e h most)
+
+-- every refusal of a rule has a number from 20 to 41
+pub rule-refuses : (t : ℕ → Tok) (view : View) (range : ℕ → Name) (fuel : ℕ) → Refuses (ruleAt t view range fuel)
+unfolding ruleAt whenSection ifSection atEnd
+rule-refuses t view range fuel = search (refusals, repeated-refuses, trigger-refuses, condition-refuses) depth 9

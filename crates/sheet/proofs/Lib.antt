@@ -1,0 +1,4 @@
+pub mod LineLaws
+pub mod ListedLaws
+pub mod ResolveLaws
+pub mod SkipLaws

@@ -1,0 +1,229 @@
+-- Which lines of a sheet can be passed unread: those that are too short for a row with the name, and those that do not end with a comma
+-- and the name. None of them changes a tally.
+use mathlib.Core.Path.{_≡_, _∙_, refl, sym, ap}
+use mathlib.Core.Bool.{Bool, true, false}
+use mathlib.Core.List.{List, [], _∷_, _++_, append-assoc}
+use Prim.Native.Nat.{ℕ, zero, suc, _+_, _-_, _<_, _≤_}
+use native.Mathlib.Omega.{arith}
+use native.Mathlib.Numerals.{add-one}
+use lib.ListN.{length, take, drop, getD, length-append, length-take, length-drop}
+use lib.Seq.{split-at, drop-drop, drop-at, drop-append-add, getD-drop, getD-take, getD-append-seam, take-add, length-take-le}
+use lib.Dec.{ltb, leb, eqb}
+use borrow.Author.Tests.{ltb-true, ltb-false, leb-true, eqb-false}
+use Rattle.bytes.specs.Bytes.{indexOf}
+use Rattle.text.specs.Choice.{pick}
+use Rattle.text.specs.Literal.{ascii}
+use Rattle.text.specs.Part.{partOf, sameBytes}
+use Rattle.text.proofs.Tests.{picked}
+use Rattle.text.proofs.PartLaws.{same-eq}
+use Rattle.text.specs.Find.{firstAt}
+use Rattle.model.specs.Limits.{lastGroup, lastShortAddress, lastAdapter}
+use Rattle.sheet.specs.Kind.{noKind, groupKind, kindOf, mostOf}
+use Rattle.sheet.specs.Line.{field, rest, hasComma, numeral, isName, checkedRow, readRow, primaryOf, adapterOf, lineBy, lineOf, nameOf}
+use Rattle.sheet.specs.Sheet.{lineEnd}
+use Rattle.sheet.specs.Tally.{lineTallyBy, lineTally, Passed}
+use Rattle.sheet.specs.declared.line.Line.{Line}
+use Rattle.sheet.specs.declared.line.Line.the-variants.{Primary, Adapter, Row, Bad}
+use Rattle.sheet.specs.declared.resolve.Scope.{Scope}
+use Rattle.sheet.specs.declared.resolve.Tally.{Tally}
+use Rattle.text.proofs.FindLaws.{index-found, first-within, first-from, first-past, first-same}
+use Rattle.text.proofs.SplitLaws.{split-none}
+use Rattle.sheet.proofs.ResolveLaws.{tally-on}
+
+-- l ends with a comma and x, and has least bytes or more before these
+record Behind (least : ℕ) (l x : List ℕ) : Type 0 where
+  front : List ℕ
+  far : least ≤ length front
+  is : l ≡ front ++ 0x2C ∷ x
+
+-- what is behind the first comma, and what is behind another comma in that
+behind-field : (least : ℕ) (l : List ℕ) → hasComma l ≡ true → least ≤ length (field l) → Behind least l (rest l)
+unfolding hasComma field rest
+behind-field least l e h =
+    let i = indexOf 0x2C l in
+    let k = ltb-true i (length l) e in
+    record { front = field l; far = h; is = rw (index-found 0x2C l k, ← (add-one i)) at (split-at l i 0 k) }
+
+behind-both : {m n : ℕ} {l x y : List ℕ} → Behind m l x → Behind n x y → Behind (m + 1 + n) l y
+behind-both b c =
+    record {
+      front = b .front ++ 0x2C ∷ c .front;
+      far = simp length-append (omega (arith, b .far, c .far));
+      is = b .is ∙ rw (c .is) (sym (append-assoc (b .front) (0x2C ∷ c .front) _));
+    }
+
+-- A, if the line says a row
+abbrev IfRow : Type 0 → Line → Type 0
+IfRow A (Row kind adapter number) = A
+IfRow A (Primary a) = Unit {0}
+IfRow A (Adapter a) = Unit {0}
+IfRow A Bad = Unit {0}
+
+-- a kind's word has four bytes or more, a number one
+kind-long : (w : List ℕ) → (kindOf w ≡ noKind → ⊥) → 4 ≤ length w
+unfolding kindOf
+kind-long w =
+    let P : ℕ → Type 0 = λ k. (k ≡ noKind → ⊥) → 4 ≤ length w in
+    picked P (sameBytes w (ascii "lamp")) (λ e _. rw (same-eq w _ e) (omega arith))
+    (λ _.
+    picked P (sameBytes w (ascii "group")) (λ e _. rw (same-eq w _ e) (omega arith))
+    (λ _.
+    picked P (sameBytes w (ascii "device")) (λ e _. rw (same-eq w _ e) (omega arith))
+    (λ _.
+    picked P (sameBytes w (ascii "input")) (λ e _. rw (same-eq w _ e) (omega arith)) (λ _ n. absurd (n refl)))))
+
+numeral-long : (l : List ℕ) (most : ℕ) → most ≤ lastAdapter → leb (numeral l) most ≡ true → 1 ≤ length l
+unfolding numeral
+numeral-long [] most h e = absurd (omega (arith, leb-true 1000 most e))
+numeral-long (c ∷ l) most h e = omega arith
+
+most-small : (kind : ℕ) → mostOf kind ≤ lastAdapter
+unfolding mostOf lastGroup lastShortAddress
+most-small kind = picked (λ (n : ℕ). n ≤ lastAdapter) (eqb kind groupKind) (λ _. omega arith) (λ _. omega arith)
+
+-- under a test without which the line is bad
+guarded : (A : Type 0) (t : Bool) (x : Line) → (t ≡ true → IfRow A x) → IfRow A (pick t x Bad)
+guarded A true x f = f refl
+guarded A false x f = tt
+
+-- so in a row at least `lamp,0,0` stands before the last comma and the name
+row-parted : (A : Type 0) (kind : ℕ) (l : List ℕ) → (Behind 3 l (rest (rest l)) → A) → IfRow A (readRow kind l)
+unfolding readRow checkedRow
+row-parted A kind l f =
+    guarded A (hasComma l) _
+    (λ first.
+    guarded A (hasComma (rest l)) _
+    (λ second.
+    guarded A (leb (numeral (field l)) lastAdapter) _
+    (λ adapter.
+    guarded A (leb (numeral (field (rest l))) (mostOf kind)) _
+    (λ number.
+    guarded A (isName (rest (rest l))) _
+    (λ _.
+    f
+    (behind-both
+    (behind-field 1 l first (numeral-long _ lastAdapter (omega arith) adapter))
+    (behind-field 1 (rest l) second (numeral-long _ (mostOf kind) (most-small kind) number))))))))
+
+line-parted : (l : List ℕ) → IfRow (Behind 8 l (nameOf l)) (lineOf l)
+unfolding lineOf lineBy nameOf primaryOf adapterOf
+line-parted l =
+    let A : Type 0 = Behind 8 l (nameOf l) in
+    guarded A (hasComma l) _
+    (λ comma.
+    picked (IfRow A) (sameBytes (field l) (ascii "primary")) (λ _. guarded A (leb (numeral (rest l)) lastAdapter) _ (λ _. tt))
+    (λ _.
+    picked (IfRow A) (sameBytes (field l) (ascii "adapter")) (λ _. guarded A (leb (numeral (rest l)) lastAdapter) _ (λ _. tt))
+    (λ _.
+    picked (IfRow A) (eqb (kindOf (field l)) noKind) (λ _. tt)
+    (λ some.
+    row-parted A (kindOf (field l)) (rest l)
+    (λ b. behind-both (behind-field 4 l comma (kind-long _ (eqb-false _ _ some))) b)))))
+
+-- and a line changes no tally unless the name stands in it so
+kept-by : (kind : ℕ) (name : List ℕ) (scope : Scope) (t : Tally) (l own : List ℕ) (x : Line) → IfRow (Behind 8 l own) x →
+    (Behind 8 l name → ⊥) → t ≡ lineTallyBy kind name scope t own x
+kept-by kind name scope t l own (Row k adapter number) b n =
+    let P : Tally → Type 0 = λ u. t ≡ u in
+    picked P (eqb k kind)
+    (λ _. picked P (sameBytes own name) (λ e. absurd (n (rw (same-eq own name e) at b))) (λ _. refl))
+    (λ _. refl)
+kept-by kind name scope t l own (Primary a) b n = refl
+kept-by kind name scope t l own (Adapter a) b n = refl
+kept-by kind name scope t l own Bad b n = refl
+
+kept : (kind : ℕ) (name : List ℕ) (scope : Scope) (t : Tally) (l : List ℕ) → (Behind 8 l name → ⊥) → t ≡ lineTally kind name scope t l
+unfolding lineTally
+kept kind name scope t l n = kept-by kind name scope t l (nameOf l) (lineOf l) (line-parted l) n
+
+-- a comma and the name stand before the offset end
+abbrev pub Ends : List ℕ → List ℕ → ℕ → Type 0
+Ends name s end = (getD s (end - (length name + 9) + 8) 0 ≡ 0x2C) × (partOf s (end - length name) end ≡ name)
+
+drop-take : (k m : ℕ) (l : List ℕ) → k ≤ length l → drop k (take (k + m) l) ≡ take m (drop k l)
+drop-take k m l h = rw (take-add k m l) (drop-at (take k l) (take m (drop k l)) k (length-take-le k l h))
+
+part-length : (s : List ℕ) (at end : ℕ) → end ≤ length s → length (partOf s at end) ≡ end - at
+unfolding partOf
+part-length s at end h = simp (length-take, length-drop) (omega arith)
+
+-- they do, far enough behind at, where the line from at up to end ends so with the name
+named-ends : (name s : List ℕ) (at end : ℕ) → end ≤ length s → Behind 8 (partOf s at end) name →
+    (at + (length name + 9) ≤ end) × Ends name s end
+unfolding partOf
+named-ends name s at end h b =
+    let n = length (b .front) in
+    let far = b .far in
+    let size = sym (part-length s at end h) ∙ ap length (b .is) ∙ length-append (b .front) (0x2C ∷ name) in
+    let long : at + (length name + 9) ≤ end = omega arith in
+    let comma : end - (length name + 9) + 8 ≡ at + n = omega arith in
+    let start : end - length name ≡ at + (n + 1) = omega arith in
+    let left : end - (at + (n + 1)) ≡ length name = omega arith in
+    let all : end - at ≡ n + 1 + length name = omega arith in (
+      long,
+      (
+        rw (comma, ← (getD-drop at s n 0), ← (getD-take (end - at) (drop at s) n 0 (omega arith)), b .is) (getD-append-seam (b .front) 0x2C name 0),
+        rw
+            (start, left, ← (drop-drop (n + 1) at s), ← (drop-take (n + 1) (length name) (drop at s) (simp length-drop (omega arith))), ← all, b .is)
+            (drop-append-add (b .front) (0x2C ∷ name) 1),
+      ),
+    )
+
+-- A, whichever of two numbers is the greater
+by-order : {A : Type 0} (m n : ℕ) → (m < n → A) → (n ≤ m → A) → A
+by-order {A} m n f g = picked (λ (_ : ℕ). A) (ltb m n) {a = 0} {b = 0} (λ e. f (ltb-true m n e)) (λ e. g (ltb-false m n e))
+
+module _ (name s : List ℕ) where
+  passed-on : (from at to : ℕ) → Passed name s from at → Passed name s at to → Passed name s from to
+  passed-on from at to p q kind scope t = q kind scope t ∙ p kind scope t
+
+  -- past the end there is no line
+  passed-none : (from at : ℕ) → length s ≤ from → length s ≤ at → Passed name s from at
+  passed-none from at h k kind scope t = rw (split-none 0x0A s from h, split-none 0x0A s at k)
+
+  -- one line
+  passed-line : (at : ℕ) {end : ℕ} → end ≡ lineEnd s at → (at + (length name + 9) ≤ end → Ends name s end → ⊥) → Passed name s at (end + 1)
+  passed-line at {end} e n =
+      let within = first-within 0x0A s at in
+      by-order at (length s)
+      (λ h kind scope t.
+      tally-on kind name scope s at t refl h e refl
+      (kept kind name scope t (partOf s at end)
+      (λ b. let w = named-ends name s at end (omega arith) b in n (w .0) (w .1))))
+      (λ past.
+      let last = first-past 0x0A s at past in
+      passed-none at (end + 1) past (omega arith))
+
+  -- all lines up to the one that ends behind p, where the others are too short for the name; n is above the bytes from at to p
+  module _ (p : ℕ) {end : ℕ} (inside : p ≤ length s) (is : end ≡ lineEnd s p) where
+    passed-lines : (n at : ℕ) → p < at + n → at ≤ p → p ≤ at + (length name + 9) →
+        (at + (length name + 9) ≤ end → Ends name s end → ⊥) → Passed name s at (end + 1)
+    passed-lines zero at h k l f = absurd (omega arith)
+    passed-lines (suc n) at h k l f =
+        let begins = first-from 0x0A s at (omega arith) in
+        by-order (firstAt 0x0A s at) p
+        (λ before.
+        passed-on at (firstAt 0x0A s at + 1) (end + 1)
+        (passed-line at refl (λ long _. omega arith))
+        (passed-lines n (firstAt 0x0A s at + 1) (omega arith) (omega arith) (omega arith) (λ long. f (omega arith))))
+        (λ beyond.
+        let e : at + (p - at) ≡ p = omega arith in
+        passed-line at (is ∙ rw e at (first-same 0x0A s at (p - at) (omega arith))) f)
+
+  module _ (from at : ℕ) (passed : Passed name s from at) where
+    -- fewer bytes are left than a row with the name has
+    pub passed-rest : at ≤ length s → length s - at < length name + 9 → Passed name s from (length s)
+    passed-rest h k =
+        let n = length s in
+        passed-on from at n passed
+        (passed-on at (n + 1) n
+        (passed-lines n (omega arith) (first-past 0x0A s n (omega arith)) (n + 1) at (omega arith) h (omega arith) (λ long _. omega arith))
+        (passed-none (n + 1) n (omega arith) (omega arith)))
+
+    -- the line that ends behind the next so many bytes does not end with a comma and the name
+    pub passed-more : {end : ℕ} → at + (length name + 9) ≤ length s → end ≡ lineEnd s (at + (length name + 9)) → (Ends name s end → ⊥) →
+        Passed name s from (end + 1)
+    passed-more {end} h e n =
+        let least = length name + 9 in
+        passed-on from at (end + 1) passed
+        (passed-lines (at + least) h e (least + 1) at (omega arith) (omega arith) (omega arith) (λ _. n))

@@ -1,0 +1,13 @@
+use borrow.Author.Needs.{needs}
+use Rattle.sheet.proofs.LineLaws.{reading}
+use Rattle.sheet.proofs.line.name_of.Statement.{statement}
+use Rattle.sheet.proofs.line.name_of.Tie as tie
+
+pub name-of-spec : {M : Type 1} → statement M
+name-of-spec =
+    tie.close
+    (tie.spec
+    (λ c κs. search needs)
+    (λ c κs. search needs)
+    (λ c κs. search needs)
+    (λ c. search reading))

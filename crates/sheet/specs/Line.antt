@@ -1,0 +1,77 @@
+-- What a line of the name sheet says (document 01, "The name sheet"): `primary,A`, `adapter,A` or `K,A,N,name`.
+use Prim.Native.Nat.{ℕ, _+_, _-_, _*_}
+use mathlib.Core.List.{List, [], _∷_}
+use mathlib.Core.Bool.{Bool, true, false}
+use lib.ListN.{length, take, drop}
+use lib.Dec.{ltb, leb, eqb}
+use Rattle.bytes.specs.Bytes.{indexOf}
+use Rattle.text.specs.Choice.{pick, within}
+use Rattle.text.specs.Literal.{ascii}
+use Rattle.text.specs.Part.{sameBytes}
+use Rattle.text.specs.Ascii.{isDigit}
+use Rattle.model.specs.Limits.{lastAdapter, longestName}
+use Rattle.sheet.specs.Kind.{noKind, kindOf, mostOf}
+use Rattle.sheet.specs.declared.line.Line.{Line}
+use Rattle.sheet.specs.declared.line.Line.the-variants.{Primary, Adapter, Row, Bad}
+
+-- "Fields are parted by commas": a line's first field, what stands behind its comma, and whether there is one
+unfoldable pub field : List ℕ → List ℕ
+field l = take (indexOf 0x2C l) l
+
+unfoldable pub rest : List ℕ → List ℕ
+rest l = drop (indexOf 0x2C l + 1) l
+
+unfoldable pub hasComma : List ℕ → Bool
+hasComma l = ltb (indexOf 0x2C l) (length l)
+
+-- a number up to 999 in decimal with no leading zero; 1000 of bytes that are none
+unfoldable pub digitsOn : ℕ → List ℕ → ℕ
+digitsOn v [] = v
+digitsOn v (c ∷ l) = pick (isDigit c) (pick (ltb 999 (v * 10 + (c - 0x30))) 1000 (digitsOn (v * 10 + (c - 0x30)) l)) 1000
+
+unfoldable pub numeral : List ℕ → ℕ
+numeral [] = 1000
+numeral (c ∷ l) = pick (eqb c 0x30) (pick (eqb (length l) 0) 0 1000) (digitsOn 0 (c ∷ l))
+
+-- "A name has 1 to 48 bytes without comma, quote or LF." A line has no LF.
+unfoldable pub isMark : ℕ → Bool
+isMark c = pick (eqb c 0x2C) true (eqb c 0x22)
+
+unfoldable pub plain : List ℕ → Bool
+plain [] = true
+plain (c ∷ l) = pick (isMark c) false (plain l)
+
+unfoldable pub isName : List ℕ → Bool
+isName l = pick (within 1 longestName (length l)) (plain l) false
+
+-- A,N,name of a kind
+unfoldable pub checkedRow : ℕ → ℕ → ℕ → List ℕ → Line
+checkedRow kind adapter number name =
+    pick (leb adapter lastAdapter) (pick (leb number (mostOf kind)) (pick (isName name) (Row kind adapter number) Bad) Bad) Bad
+
+unfoldable pub readRow : ℕ → List ℕ → Line
+readRow kind l =
+    pick (hasComma l)
+    (pick (hasComma (rest l)) (checkedRow kind (numeral (field l)) (numeral (field (rest l))) (rest (rest l))) Bad)
+    Bad
+
+-- "A is 0 to 255"
+unfoldable pub primaryOf : ℕ → Line
+primaryOf a = pick (leb a lastAdapter) (Primary a) Bad
+
+unfoldable pub adapterOf : ℕ → Line
+adapterOf a = pick (leb a lastAdapter) (Adapter a) Bad
+
+-- a line by its first field w and what is behind it
+unfoldable pub lineBy : List ℕ → List ℕ → Line
+lineBy w l =
+    pick (sameBytes w (ascii "primary")) (primaryOf (numeral l))
+    (pick (sameBytes w (ascii "adapter")) (adapterOf (numeral l))
+    (pick (eqb (kindOf w) noKind) Bad (readRow (kindOf w) l)))
+
+unfoldable pub lineOf : List ℕ → Line
+lineOf l = pick (hasComma l) (lineBy (field l) (rest l)) Bad
+
+-- the name of a row's line: what is behind its third comma
+unfoldable pub nameOf : List ℕ → List ℕ
+nameOf l = rest (rest (rest l))

@@ -1,3 +1,0 @@
-mod CodeLaws
-mod SignedLaws
-mod RowLaws
