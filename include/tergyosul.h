@@ -57,6 +57,15 @@ extern "C" {
 #define TERGYOSUL_ANSWER_WORDS 108
 #define TERGYOSUL_NO_TYPE 4294967295u
 
+/* The length of an answer of tergyosul_lex: number, line, column, count of the tokens. */
+#define TERGYOSUL_LEX_WORDS 4
+
+/*
+ * The result of a call whose answer is too short: shorter than TERGYOSUL_ANSWER_WORDS, of tergyosul_lex than
+ * TERGYOSUL_LEX_WORDS. If answer is too short, nothing is read and nothing is written. No refusal has this number.
+ */
+#define TERGYOSUL_NO_ROOM 4294967295u
+
 /* The kinds of triggers, in rows 1 to 4. */
 enum tergyosul_trigger {
     TERGYOSUL_INPUT_EVENT = 1,                        /* SELECTOR EVENT */
@@ -145,9 +154,9 @@ enum tergyosul_reading {
 };
 
 /*
- * Reads a rule text with a name sheet. The result is 0, or the number of the refusal. The whole answer goes to answer, as
- * above; if that is shorter than TERGYOSUL_ANSWER_WORDS, it is left as it is. The records of the tokens go to words, six
- * words each: kind, number, start, length, line, column; with refusals 1 to 4 these are left as they are.
+ * Reads a rule text with a name sheet. The result is 0, or the number of the refusal, or TERGYOSUL_NO_ROOM. The whole answer
+ * goes to answer, as above. The records of the tokens go to words, six words each: kind, number, start, length, line,
+ * column; with refusals 1 to 4 these are left as they are.
  */
 uint32_t tergyosul_read(const uint8_t *text, size_t text_length,
                         const uint8_t *sheet, size_t sheet_length,
@@ -155,9 +164,9 @@ uint32_t tergyosul_read(const uint8_t *text, size_t text_length,
                         uint32_t *answer, size_t answer_length);
 
 /*
- * Lexes a text. The records of its tokens go to words, as above. The result is 0, or the number of the refusal; answer gets
- * number, line, column and the count of the tokens, if it has room for these four words. On acceptance line and column
- * are those of the text's end.
+ * Lexes a text alone: questions 1, 2 and 4, then 10 to 19. The records of its tokens go to words, as above; with refusals 1,
+ * 2 and 4 these are left as they are. The result is 0, or the number of the refusal, or TERGYOSUL_NO_ROOM; answer gets number,
+ * line, column and the count of the tokens. On acceptance line and column are those of the text's end.
  */
 uint32_t tergyosul_lex(const uint8_t *text, size_t text_length,
                        uint32_t *words, size_t words_length,

@@ -198,7 +198,7 @@ static void put_condition(const uint32_t *row)
 int main(int count, char **arguments)
 {
     size_t text_length, sheet_length;
-    uint32_t i;
+    uint32_t number, i;
 
     if (count != 3) {
         fprintf(stderr, "usage: example RULE SHEET\n");
@@ -207,8 +207,13 @@ int main(int count, char **arguments)
     if (!load(arguments[1], text, &text_length) || !load(arguments[2], sheet, &sheet_length)) {
         return 2;
     }
-    if (tergyosul_read(text, text_length, sheet, sheet_length, words, TERGYOSUL_TOKEN_WORDS, answer,
-                       TERGYOSUL_ANSWER_WORDS) != 0) {
+    number = tergyosul_read(text, text_length, sheet, sheet_length, words, TERGYOSUL_TOKEN_WORDS, answer,
+                            TERGYOSUL_ANSWER_WORDS);
+    if (number == TERGYOSUL_NO_ROOM) { /* not with an array of this length; answer was not written */
+        fprintf(stderr, "there is no room for the answer\n");
+        return 2;
+    }
+    if (number != 0) {
         printf("refused: number %lu, line %lu, column %lu, detail %lu\n", (unsigned long)answer[0],
                (unsigned long)answer[1], (unsigned long)answer[2], (unsigned long)answer[3]);
         return 1;

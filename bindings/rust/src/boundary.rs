@@ -35,6 +35,9 @@ extern "C" {
     ) -> u32;
 }
 
+/// The result of a call whose answer is too short: nothing was read and nothing written.
+pub const NO_ROOM: u32 = u32::MAX;
+
 pub fn read(text: &[u8], sheet: &[u8], words: &mut [u32], answer: &mut [u32]) -> u32 {
     // SAFETY: as above: four slices that are borrowed for the call, the two mutable ones apart from all others.
     unsafe {

@@ -50,6 +50,9 @@ pub use rule::{
 /// give refusal 2.
 pub const TOKEN_WORDS: usize = 6_144;
 
+/// The length of an answer of the library's `tergyosul_lex`.
+const LEX_WORDS: usize = 4;
+
 /// Reads a rule text with a name sheet.
 ///
 /// The records of the tokens go to `words`, six each (kind, number, start, length, line, column); with refusals 1 to 4 these
@@ -61,19 +64,29 @@ pub const TOKEN_WORDS: usize = 6_144;
 /// that means that another one was linked.
 pub fn read(text: &[u8], sheet: &[u8], words: &mut [u32]) -> Result<Rule, Refusal> {
     let mut answer = [0; layout::ANSWER_WORDS];
-    boundary::read(text, sheet, words, &mut answer);
+    let number = boundary::read(text, sheet, words, &mut answer);
+    with_room(number)?;
     layout::rule(&answer)
 }
 
 /// Lexes a text alone, and gives the count of its tokens. Their records go to `words`, as [`read`] writes them.
 ///
-/// Question 4 is not asked: a text that is not UTF-8 is lexed up to the first place where no character begins.
+/// Questions 1, 2 and 4 are asked first, as [`read`] asks them; with these refusals `words` is left as it is. Then 10 to 19.
 pub fn lex(text: &[u8], words: &mut [u32]) -> Result<usize, Refusal> {
-    let mut answer = [0; 4];
-    boundary::lex(text, words, &mut answer);
+    let mut answer = [0; LEX_WORDS];
+    with_room(boundary::lex(text, words, &mut answer))?;
     let [number, line, column, count] = answer;
     if number != 0 {
         return Err(Refusal { number, line, column, detail: 0 });
     }
     Ok(count as usize)
+}
+
+/// The arrays above have room for the answer, so the proved library never says that there is none. Another one's word for it
+/// is a refusal with that number, not a rule without triggers.
+fn with_room(number: u32) -> Result<(), Refusal> {
+    if number == boundary::NO_ROOM {
+        return Err(Refusal { number, line: 0, column: 0, detail: 0 });
+    }
+    Ok(())
 }

@@ -1,5 +1,6 @@
 //! Why a text is not taken.
 
+use crate::boundary::NO_ROOM;
 use core::fmt;
 
 /// A refusal: its number, its place and a detail. `docs/MANUAL.md` has an example of each and says what to do.
@@ -54,6 +55,7 @@ impl Refusal {
             39 => "there are more than four conditions",
             40 => "this form is left out",
             41 => "the text goes on after the rule",
+            NO_ROOM => "there is no room for the answer",
             _ => "the number is not known",
         }
     }

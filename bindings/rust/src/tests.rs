@@ -1,7 +1,7 @@
 //! Every kind, code and choice of the layout, by calls of the library: the words of the answer, and the value they become.
 
 use crate::rule::*;
-use crate::{boundary, layout, lex, read, Refusal, TOKEN_WORDS};
+use crate::{boundary, layout, lex, read, with_room, Refusal, LEX_WORDS, TOKEN_WORDS};
 use std::format;
 use std::string::{String, ToString};
 use std::vec::Vec;
@@ -458,12 +458,37 @@ fn a_detail_comes_with_its_refusal() {
     assert_eq!(refusal.to_string(), "1:11: several rows on one adapter have the name, 2 rows (refusal 33)");
 }
 
+/// Nothing is read and nothing is written, be the text accepted or refused, the sheet bad, or the words too few.
 #[test]
-fn a_short_answer_is_left_as_it_is() {
+fn no_room_for_the_answer() {
     let mut answer = [7; layout::ANSWER_WORDS - 1];
-    assert_eq!(boundary::read(b"when http trigger", SHEET, &mut [0; TOKEN_WORDS], &mut answer), 0);
+    let mut words = [9; TOKEN_WORDS];
+    for (text, sheet) in [(&b"when http trigger"[..], SHEET), (b"when", SHEET), (b"when http trigger", b"")] {
+        assert_eq!(boundary::read(text, sheet, &mut words, &mut answer), boundary::NO_ROOM);
+        assert_eq!(boundary::read(text, sheet, &mut words, &mut []), boundary::NO_ROOM);
+        assert_eq!(boundary::read(text, sheet, &mut [], &mut answer), boundary::NO_ROOM);
+    }
+    for text in [&b"when http trigger"[..], b"when @"] {
+        assert_eq!(boundary::lex(text, &mut words, &mut answer[..LEX_WORDS - 1]), boundary::NO_ROOM);
+        assert_eq!(boundary::lex(text, &mut words, &mut []), boundary::NO_ROOM);
+    }
     assert!(answer.iter().all(|&word| word == 7));
-    assert_eq!(boundary::read(b"when", SHEET, &mut [0; TOKEN_WORDS], &mut []), 20);
+    assert!(words.iter().all(|&word| word == 9));
+    let refusal = with_room(boundary::NO_ROOM).unwrap_err();
+    assert_eq!(refusal.to_string(), "there is no room for the answer (refusal 4294967295)");
+    assert_eq!(with_room(20), Ok(()));
+}
+
+#[test]
+fn the_lengths_are_the_headers() {
+    let defined = |name: &str| -> u32 {
+        let line = HEADER.lines().find_map(|line| line.strip_prefix(&format!("#define TERGYOSUL_{name} ")));
+        line.expect("the header has it").trim_end_matches('u').parse().expect("it is a number")
+    };
+    assert_eq!(defined("TOKEN_WORDS"), TOKEN_WORDS as u32);
+    assert_eq!(defined("ANSWER_WORDS"), layout::ANSWER_WORDS as u32);
+    assert_eq!(defined("LEX_WORDS"), LEX_WORDS as u32);
+    assert_eq!(defined("NO_ROOM"), boundary::NO_ROOM);
 }
 
 #[test]
@@ -480,6 +505,16 @@ fn lexing_alone() {
     assert_eq!(words[..13], [1, 0, 0, 4, 1, 1, 5, 5_000, 5, 2, 1, 6, 9]);
     assert_eq!(lex(b"when @", &mut words), Err(Refusal { number: 10, line: 1, column: 6, detail: 0 }));
     assert_eq!(lex(b"", &mut []), Err(Refusal { number: 2, line: 0, column: 0, detail: 0 }));
+}
+
+#[test]
+fn lexing_refuses_what_is_not_utf8() {
+    let mut words = [9; TOKEN_WORDS];
+    assert_eq!(lex(b"a \xFF", &mut words), Err(Refusal { number: 4, line: 1, column: 3, detail: 0 }));
+    assert_eq!(words, [9; TOKEN_WORDS]);
+    // 1 and 2 are asked before 4
+    assert_eq!(lex(b"\xFF", &mut words[1..]), Err(Refusal { number: 2, line: 0, column: 0, detail: 0 }));
+    assert_eq!(lex(&[0xFF; 16_385], &mut []), Err(Refusal { number: 1, line: 0, column: 0, detail: 0 }));
 }
 
 #[test]

@@ -1,4 +1,4 @@
-mod EntryLaws
+pub mod EntryLaws
 mod PartLaws
 mod RowLaws
 mod SignedLaws

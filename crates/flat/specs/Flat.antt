@@ -156,6 +156,10 @@ firstCondition = firstTrigger + listRows
 unfoldable pub rowCount : ℕ
 rowCount = firstCondition + listRows
 
+-- the length of an answer
+abbrev pub answerWords : ℕ
+answerWords = rowCount * rowWords
+
 -- "Words that a row does not name are 0."
 unfoldable pub wholeRow : List ℕ → List ℕ
 wholeRow named = padded (λ (n : ℕ). n) 0 rowWords named
@@ -198,6 +202,6 @@ headRow a =
 unfoldable pub flat : List ℕ → Answer → List ℕ
 flat words a =
     pick
-    (ltb (length words) (rowCount * rowWords))
+    (ltb (length words) answerWords)
     words
     (withConditions (withTriggers (rowSet words 0 (headRow a)) (a .triggers)) (a .conditions))

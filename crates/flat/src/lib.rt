@@ -8,12 +8,15 @@ mod triggers;
 use crate::rows::ROW_WORDS;
 use crate::rows::Row;
 use model::Answer;
+use model::Condition;
 use model::Conditions;
+use model::Trigger;
 use model::Triggers;
 use text::place;
-ghost use Prim.Native.Nat.{_<_};
 ghost use mathlib.Core.Path.{_≡_};
-ghost use Rattle.flat.specs.Flat.{listRows, triggerRow, conditionRow, headRow, withTriggers, withConditions, flat};
+ghost use mathlib.Core.List.{[]};
+ghost use Rattle.text.specs.Choice.{pick};
+ghost use Rattle.flat.specs.Flat.{triggerWords, conditionWords, wholeRow, rowSet, headRow, withTriggers, withConditions, flat};
 
 // How many rows a list has.
 const LIST_ROWS: usize = 4;
@@ -24,19 +27,18 @@ const FIRST_CONDITION: usize = FIRST_TRIGGER + LIST_ROWS;
 
 const ROW_COUNT: usize = FIRST_CONDITION + LIST_ROWS;
 
-const ANSWER_WORDS: usize = ROW_COUNT * ROW_WORDS;
+// The length of an answer.
+pub const ANSWER_WORDS: usize = ROW_COUNT * ROW_WORDS;
 
-// The row of the trigger with an index: zeros where it is not in use.
-fn trigger_at(list: Triggers, i: usize) -> Row
-    requires { ⌜ i < listRows ⌝ }
-    ensures { λ w. ⌜ w ≡ triggerRow list i ⌝ }
+// Writes the row of a trigger: zeros where it is not in use. One entry is handed over and not the list, which would be copied each time.
+fn put_trigger(out: &mut [u32], row: usize, used: bool, x: Trigger)
+    ensures { λ _. ⌜ now (out .exit) ≡ rowSet (now (out .entry)) row (wholeRow (pick used (triggerWords x) [])) ⌝ }
 {
-    if list.count <= i {
-        return [0; ROW_WORDS];
+    if used {
+        rows::put_row(out, row, triggers::trigger_row(x));
+        return;
     }
-    let entry = list.rows[i];
-    let x = entry.trigger;
-    triggers::trigger_row(x)
+    rows::put_row(out, row, [0; ROW_WORDS]);
 }
 
 fn put_triggers(out: &mut [u32], list: Triggers)
@@ -44,22 +46,22 @@ fn put_triggers(out: &mut [u32], list: Triggers)
 {
     let mut i: usize = 0;
     while i < LIST_ROWS {
-        rows::put_row(out, FIRST_TRIGGER + i, trigger_at(list, i));
+        let entry = list.rows[i];
+        let x = entry.trigger;
+        put_trigger(out, FIRST_TRIGGER + i, i < list.count, x);
         i += 1;
     }
 }
 
-// The row of the condition with an index: zeros where it is not in use.
-fn condition_at(list: Conditions, i: usize) -> Row
-    requires { ⌜ i < listRows ⌝ }
-    ensures { λ w. ⌜ w ≡ conditionRow list i ⌝ }
+// The same for a condition.
+fn put_condition(out: &mut [u32], row: usize, used: bool, y: Condition)
+    ensures { λ _. ⌜ now (out .exit) ≡ rowSet (now (out .entry)) row (wholeRow (pick used (conditionWords y) [])) ⌝ }
 {
-    if list.count <= i {
-        return [0; ROW_WORDS];
+    if used {
+        rows::put_row(out, row, conditions::condition_row(y));
+        return;
     }
-    let entry = list.rows[i];
-    let x = entry.condition;
-    conditions::condition_row(x)
+    rows::put_row(out, row, [0; ROW_WORDS]);
 }
 
 fn put_conditions(out: &mut [u32], list: Conditions)
@@ -67,7 +69,9 @@ fn put_conditions(out: &mut [u32], list: Conditions)
 {
     let mut i: usize = 0;
     while i < LIST_ROWS {
-        rows::put_row(out, FIRST_CONDITION + i, condition_at(list, i));
+        let entry = list.rows[i];
+        let y = entry.condition;
+        put_condition(out, FIRST_CONDITION + i, i < list.count, y);
         i += 1;
     }
 }

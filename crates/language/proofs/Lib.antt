@@ -7,5 +7,8 @@ pub mod ConditionSound
 pub mod ConditionComplete
 pub mod TextLaws
 pub mod RefusalLaws
+pub mod RangeLaws
+pub mod FuelLaws
 pub mod Theorem
+pub mod HoldsLaws
 pub mod Pairs

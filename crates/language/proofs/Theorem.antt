@@ -17,10 +17,11 @@ use Rattle.text.specs.declared.place.Checked.the-variants.{WellFormed, IllForme
 use Rattle.tokens.specs.Result.{Res, ok, no}
 use Rattle.tokens.specs.Cursor.{tokens}
 use Rattle.tokens.specs.Record.{capacity}
-use Rattle.tokens.specs.Lex.{Lexing, ended, token, lexText}
+use Rattle.tokens.specs.Lex.{Lexing, ended, token, lexText, mostTokens, mostBytes, leastWords}
 use Rattle.tokens.specs.Ended.{Ended, at-end, behind, recordWords}
 use Rattle.tokens.specs.Layout.{Laid, end, refusal, next}
 use Rattle.tokens.proofs.LayoutLaws.{laid}
+use Rattle.tokens.proofs.DurationLaws.{durations}
 use Rattle.sheet.specs.Sheet.{sheetCheck}
 use Rattle.sheet.specs.View.{View}
 use Rattle.sheet.specs.declared.rows.Sheet.{Sheet}
@@ -29,6 +30,7 @@ use Rattle.references.proofs.ArgComplete.{no-token}
 use Rattle.tokens.proofs.Okay.{Okay}
 use Rattle.references.proofs.NumberLaws.{Refuses}
 use Rattle.language.proofs.RefusalLaws.{rule-refuses}
+use Rattle.language.proofs.RangeLaws.{ranges}
 use Rattle.language.specs.Section.{Lists}
 use Rattle.language.specs.Range.{rangeOf}
 use Rattle.language.specs.Read.{parsed, ruleOf, lexedFrom, byText, bySheet, Outcome, seen, readOf}
@@ -86,30 +88,32 @@ passes {text} h = judged-one (judged text) (well-formed h)
 past : (text words : List ℕ) → End (tokens text words) (capacity words)
 past text words = no-token text words
 
--- at most 1,024 tokens are what the call lexes
-given : {text : List ℕ} {l : Lexing} {count : ℕ} → Gives text l count → count ≤ 1024 → lexText text ≡ l
+-- the tokens that a text gives, if they are few enough, are those that the call lexes
+given : {text : List ℕ} {l : Lexing} {count : ℕ} → Gives text l count → count ≤ mostTokens → lexText text ≡ l
 unfolding lexText
 given {text} {count = count} g few =
-    same-lexing (g .most) 1024 text start (subst (λ (x : Lexing). Ended x count) (sym (g .lexed)) (g .finished)) few ∙ g .lexed
+    same-lexing (g .most) mostTokens text start (subst (λ (x : Lexing). Ended x count) (sym (g .lexed)) (g .finished)) few ∙ g .lexed
 
-gives : {text : List ℕ} {count : ℕ} → Ended (lexText text) count → Gives text (lexText text) count
+gives : {text characters : List ℕ} {count : ℕ} → length text ≤ mostBytes → Utf8-octets text characters → Ended (lexText text) count →
+    Gives text (lexText text) count
 unfolding lexText
-gives h = record { most = 1024; lexed = refl; finished = h }
+gives {characters = characters} short octets h =
+    record { short = short; characters = characters; octets = octets; most = mostTokens; lexed = refl; finished = h }
 
-pub few : (text : List ℕ) {count : ℕ} → Ended (lexText text) count → count ≤ 1024
+pub few : (text : List ℕ) {count : ℕ} → Ended (lexText text) count → count ≤ mostTokens
 unfolding lexText
-few text h = most-tokens 1024 text start h
+few text h = most-tokens mostTokens text start h
 
 -- Accepted with number 0: the questions from the last to the first.
 module _ (text sheet words : List ℕ) where
   abbrev Sound : Outcome → Type 0
   Sound o = o .answer .number ≡ 0 → Accepts text sheet (length words) (o .answer)
 
-  text-sound : length text ≤ 16384 → 6144 ≤ length words → sheetCheck sheet ≡ Sheet.WellFormed → (c : Checked) → Judged text c →
+  text-sound : length text ≤ mostBytes → leastWords ≤ length words → sheetCheck sheet ≡ Sheet.WellFormed → (c : Checked) → Judged text c →
       Sound (byText text (seen sheet) words c)
   unfolding byText refusedWith ruleOf
   text-sound short room sheet-passes (IllFormed line column) j e = absurd (omega arith)
-  text-sound short room sheet-passes WellFormed (well-formed {cs} octets) e =
+  text-sound short room sheet-passes WellFormed (well-formed octets) e =
       let whole = lexText text in
       let records = recordWords whole in
       let p = lexed-sound text (seen sheet) whole whole (laid text) e in
@@ -123,41 +127,39 @@ module _ (text sheet words : List ℕ) where
         lists = lexed-complete text (seen sheet) whole (p .finished) ∙ read .lists;
         reads =
             record {
-              short = short;
               room = room;
               well-formed = sheet-passes;
-              characters = cs;
-              octets = octets;
               lexing = whole;
               count = p .count;
-              gives = gives (p .finished);
+              gives = gives short octets (p .finished);
               few = few text (p .finished);
               reading = read .reads;
             };
+        ranges = ranges sheet (read .reads);
       }
 
-  sheet-sound : length text ≤ 16384 → 6144 ≤ length words → (x : Sheet) → sheetCheck sheet ≡ x → Sound (bySheet text (seen sheet) words x)
+  sheet-sound : length text ≤ mostBytes → leastWords ≤ length words → (x : Sheet) → sheetCheck sheet ≡ x → Sound (bySheet text (seen sheet) words x)
   unfolding bySheet refusedWith
   sheet-sound short room (Sheet.BadLine n) p e = absurd (omega arith)
   sheet-sound short room Sheet.WellFormed p e = text-sound short room p (checkOf text) (judged text) e
 
-  room-sound : length text ≤ 16384 → (b : Bool) → ltb (length words) 6144 ≡ b →
+  room-sound : length text ≤ mostBytes → (b : Bool) → ltb (length words) leastWords ≡ b →
       Sound (pick b (record { answer = refusedWith 2 0 0 0; buffer = words }) (bySheet text (seen sheet) words (sheetCheck sheet)))
   unfolding refusedWith
   room-sound short true p e = absurd (omega arith)
   room-sound short false p e = sheet-sound short (ltb-false _ _ p) (sheetCheck sheet) refl e
 
-  short-sound : (b : Bool) → ltb 16384 (length text) ≡ b →
+  short-sound : (b : Bool) → ltb mostBytes (length text) ≡ b →
       Sound
       (pick b (record { answer = refusedWith 1 0 0 0; buffer = words })
-      (pick (ltb (length words) 6144) (record { answer = refusedWith 2 0 0 0; buffer = words }) (bySheet text (seen sheet) words (sheetCheck sheet))))
+      (pick (ltb (length words) leastWords) (record { answer = refusedWith 2 0 0 0; buffer = words }) (bySheet text (seen sheet) words (sheetCheck sheet))))
   unfolding refusedWith
   short-sound true p e = absurd (omega arith)
-  short-sound false p e = room-sound (ltb-false _ _ p) (ltb (length words) 6144) refl e
+  short-sound false p e = room-sound (ltb-false _ _ p) (ltb (length words) leastWords) refl e
 
   sound : Sound (readOf text sheet words)
   unfolding readOf
-  sound e = short-sound (ltb 16384 (length text)) refl e
+  sound e = short-sound (ltb mostBytes (length text)) refl e
 
   complete : (xs : List Trigger) (ys : List Condition) → Has-reading text sheet (length words) xs ys →
       readOf text sheet words .answer ≡ acceptedWith xs ys
@@ -167,21 +169,34 @@ module _ (text sheet words : List ℕ) where
       let records = recordWords l in
       let rule = rule-complete (tokens text records) (seen sheet) (rangeOf records) (capacity records) (past text records) (h .reading) in
       rw (
-        le-ltb 16384 (length text) (h .short),
-        le-ltb (length words) 6144 (h .room),
+        le-ltb mostBytes (length text) (h .gives .short),
+        le-ltb (length words) leastWords (h .room),
         h .well-formed,
-        passes (h .octets),
+        passes (h .gives .octets),
         given (h .gives) (h .few),
         lexed-complete text (seen sheet) l (h .gives .finished),
         rule .1,
       )
 
--- the third demand: for every text, sheet and buffer
-pub exact : (text sheet words : List ℕ) → Exact text sheet (length words) (readOf text sheet words .answer)
-exact text sheet words = record { sound = sound text sheet words; complete = complete text sheet words }
-
--- "that there is only one is proved, not built in": two readings of the same tokens with the same view are equal
+-- two readings of the same tokens with the same view are equal
 pub one-reading-only : (text words : List ℕ) (view : View) {xs us : List Trigger} {ys vs : List Condition} →
     Reading-with (tokens text words) view (rangeOf words) xs ys → Reading-with (tokens text words) view (rangeOf words) us vs →
     (xs ≡ us) × (ys ≡ vs)
 one-reading-only text words view h g = one-reading (tokens text words) view (rangeOf words) (capacity words) (past text words) h g
+
+-- a reading of a text is one of the tokens that the call lexes
+as-lexed : {text sheet : List ℕ} {size : ℕ} {xs : List Trigger} {ys : List Condition} → Has-reading text sheet size xs ys →
+    Reading-with (tokens text (recordWords (lexText text))) (seen sheet) (rangeOf (recordWords (lexText text))) xs ys
+as-lexed {text} {sheet} {xs = xs} {ys = ys} h =
+    subst (λ (l : Lexing). Reading-with (tokens text (recordWords l)) (seen sheet) (rangeOf (recordWords l)) xs ys)
+    (sym (given (h .gives) (h .few))) (h .reading)
+
+-- the third demand: for every text, sheet and buffer
+pub exact : (text sheet words : List ℕ) → Exact text sheet (length words) (readOf text sheet words .answer)
+exact text sheet words =
+    record {
+      sound = sound text sheet words;
+      complete = complete text sheet words;
+      one = λ xs us ys vs h g. one-reading-only text (recordWords (lexText text)) (seen sheet) (as-lexed h) (as-lexed g);
+      durations = λ e. durations text (sound text sheet words e .reads .gives .short);
+    }

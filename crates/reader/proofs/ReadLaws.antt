@@ -18,7 +18,7 @@ use Rattle.text.specs.declared.place.Checked.the-variants.{WellFormed, IllForme
 use Rattle.tokens.specs.Result.{Res, ok, no}
 use Rattle.tokens.specs.Record.{recordSize, capacity, lineAt, columnAt}
 use Rattle.tokens.specs.Cursor.{tokens}
-use Rattle.tokens.specs.Lex.{Lexing, ended, refused, token, lexText, answerFrom, writtenFrom, lexAnswer, lexWords, mostTokens, mostBytes, leastWords}
+use Rattle.tokens.specs.Lex.{Lexing, ended, refused, token, lexText, answerFrom, writtenFrom, answerBy, wordsBy, lexAnswer, lexWords, mostTokens, mostBytes, leastWords}
 use Rattle.tokens.specs.declared.cursor.Refusal.{Refusal}
 use Rattle.tokens.specs.declared.lexer.Lexed.{Lexed}
 use Rattle.tokens.specs.declared.lexer.Lexed.the-variants.{Tokens, Refused}
@@ -32,10 +32,12 @@ use Rattle.tokens.specs.Ended.{Ended, recordWords, tokenLine, tokenColumn}
 use Rattle.model.specs.Lists.{triggersOf, conditionsOf, acceptedWith, refusedWith}
 use Rattle.language.specs.Read.{parsed, ruleOf, lexedFrom, byText, bySheet, Outcome, seen, readOf}
 use Rattle.language.specs.Demand.{Exact}
+use Rattle.tokens.specs.Buffer.{Holds, frontOf}
 use Rattle.model.specs.declared.Triggers.{Triggers}
 use Rattle.model.specs.declared.Conditions.{Conditions}
 use Rattle.model.specs.declared.Answer.{Answer}
 use Rattle.language.proofs.Theorem.{lexed-complete, few, exact}
+use Rattle.language.proofs.HoldsLaws.{read-holds}
 use Rattle.reader.specs.Parts.{toRule, placed, answered}
 use Rattle.reader.specs.declared.parts.Rule.{Rule}
 use Rattle.reader.proofs.RuleLaws.{one-answer}
@@ -95,13 +97,23 @@ module _ (text : List ℕ) (view : View) (words : List ℕ) (short : length text
       rw (records, a .3, a .4) (answered-parsed (a .1) (ruleOf text (recordWords (lexText text)) view)) ∙
       sym (lexed-complete text view (lexText text) (a .1))
 
-  pub lexed-same : lexedBy text view (lexWords text words) (lexAnswer text words) ≡ lexedFrom text view (lexText text) (lexText text)
-  unfolding lexAnswer lexWords
-  lexed-same = rw (le-ltb mostBytes (length text) short, le-ltb (length words) leastWords room) (by-answer (answerFrom 0 (lexText text)) refl)
+  answer-by : (x : Checked) → lexedBy text view (wordsBy text words x) (answerBy text x) ≡ byText text view words x .answer
+  unfolding answerBy wordsBy byText
+  answer-by WellFormed = by-answer (answerFrom 0 (lexText text)) refl
+  answer-by (IllFormed line column) = refl
 
-words-same : (text words : List ℕ) → length text ≤ mostBytes → leastWords ≤ length words → lexWords text words ≡ writtenFrom 0 words (lexText text)
-unfolding lexWords
-words-same text words short room = rw (le-ltb mostBytes (length text) short, le-ltb (length words) leastWords room)
+  pub lexed-same : lexedBy text view (lexWords text words) (lexAnswer text words) ≡ byText text view words (checkOf text) .answer
+  unfolding lexAnswer lexWords
+  lexed-same = rw (le-ltb mostBytes (length text) short, le-ltb (length words) leastWords room) (answer-by (checkOf text))
+
+  words-by : (x : Checked) → wordsBy text words x ≡ byText text view words x .buffer
+  unfolding wordsBy byText
+  words-by WellFormed = refl
+  words-by (IllFormed line column) = refl
+
+  pub words-same : lexWords text words ≡ byText text view words (checkOf text) .buffer
+  unfolding lexWords
+  words-same = rw (le-ltb mostBytes (length text) short, le-ltb (length words) leastWords room) (words-by (checkOf text))
 
 -- an answer with tokens passed a question
 abbrev is-tokens : Lexed → Bool
@@ -113,13 +125,19 @@ passed : (b : Bool) (number : ℕ) (x : Lexed) {count line column : ℕ} → pic
 passed true number x e = absurd (let p = ap is-tokens e in let z : _≡_ {A = ℕ} 0 1 = cc in omega arith)
 passed false number x e = (refl, e)
 
+passed-check : (text : List ℕ) (x : Checked) {count line column : ℕ} → answerBy text x ≡ Tokens count line column →
+    answerFrom 0 (lexText text) ≡ Tokens count line column
+unfolding answerBy
+passed-check text WellFormed e = e
+passed-check text (IllFormed l c) e = absurd (let p = ap is-tokens e in let z : _≡_ {A = ℕ} 0 1 = cc in omega arith)
+
 -- at most 1,024 records are counted, and they are in the buffer
 counted-few : (text words : List ℕ) {count line column : ℕ} → lexAnswer text words ≡ Tokens count line column → count ≤ mostTokens
 unfolding lexAnswer
 counted-few text words e =
     let p = passed (ltb mostBytes (length text)) 1 _ e in
     let q = passed (ltb (length words) leastWords) 2 _ (p .1) in
-    let a = answer-ended 0 (lexText text) (q .1) in
+    let a = answer-ended 0 (lexText text) (passed-check text (checkOf text) (q .1)) in
     let f = few text (a .1) in
     let s = a .2 in
     omega arith
@@ -137,13 +155,14 @@ counted-records text words e =
 -- The code's steps. The lexer's answer x, and the buffer behind it:
 module _ (text words : List ℕ) {x : Lexed} (answer : x ≡ lexAnswer text words) where
   lexed-size : length (lexWords text words) ≡ length words
-  unfolding lexWords
-  lexed-size = by (ltb mostBytes (length text)) (ltb (length words) leastWords)
+  unfolding lexWords wordsBy
+  lexed-size = by (ltb mostBytes (length text)) (ltb (length words) leastWords) (checkOf text)
     where
-      by : (a b : Bool) → length (pick a words (pick b words (writtenFrom 0 words (lexText text)))) ≡ length words
-      by true b = refl
-      by false true = refl
-      by false false = buffer-size words (lexText text)
+      by : (a b : Bool) (x : Checked) → length (pick a words (pick b words (wordsBy text words x))) ≡ length words
+      by true b x = refl
+      by false true x = refl
+      by false false WellFormed = buffer-size words (lexText text)
+      by false false (IllFormed line column) = refl
 
   module _ {count line column : ℕ} (was : x ≡ Tokens count line column) where
     in-words : count * recordSize ≤ length words
@@ -165,7 +184,7 @@ module _ (text words : List ℕ) {x : Lexed} (answer : x ≡ lexAnswer text word
 
     pub lexed-yes : (view : View) {buffer : List ℕ} {r : Answer} → Asked text words → buffer ≡ lexWords text words →
         r ≡ answered (take (count * recordSize) buffer) line column (ruleOf text (take (count * recordSize) buffer) view) →
-        r ≡ lexedFrom text view (lexText text) (lexText text)
+        r ≡ byText text view words (checkOf text) .answer
     lexed-yes view q e h = by-tokens view e h ∙ lexed-same text view words (q .0) (q .1)
 
   by-refusal : (view : View) {number line column : ℕ} {r : Answer} → x ≡ Refused number line column →
@@ -173,13 +192,13 @@ module _ (text words : List ℕ) {x : Lexed} (answer : x ≡ lexAnswer text word
   by-refusal view was h = rw (← answer, was) h
 
   pub lexed-no : (view : View) {number line column : ℕ} {r : Answer} → Asked text words → x ≡ Refused number line column →
-      r ≡ refusedWith number line column 0 → r ≡ lexedFrom text view (lexText text) (lexText text)
+      r ≡ refusedWith number line column 0 → r ≡ byText text view words (checkOf text) .answer
   lexed-no view q was h = by-refusal view was h ∙ lexed-same text view words (q .0) (q .1)
 
 -- the words behind the lexer
-pub lexed-words : (text words : List ℕ) {buffer : List ℕ} → Asked text words → buffer ≡ lexWords text words →
-    buffer ≡ writtenFrom 0 words (lexText text)
-lexed-words text words q e = e ∙ words-same text words (q .0) (q .1)
+pub lexed-words : (text : List ℕ) (view : View) (words : List ℕ) {buffer : List ℕ} → Asked text words → buffer ≡ lexWords text words →
+    buffer ≡ byText text view words (checkOf text) .buffer
+lexed-words text view words q e = e ∙ words-same text view words (q .0) (q .1)
 
 -- a refusal, and its place
 pub refused-made : (number line column detail : ℕ) {triggers : Triggers} {conditions : Conditions} → triggers ≡ triggersOf [] →
@@ -230,15 +249,7 @@ module _ (text words sheet : List ℕ) (line column : ℕ) {settings : Settings}
       a ≡ answered words line column (ruleOf text words (seen sheet))
   parsed-no h w = no-by (ruleOf text words (seen sheet)) rule-is h w
 
--- a question's answer, taken apart
-pub text-answer : (text : List ℕ) (view : View) (words : List ℕ) (x : Checked) {r v : Checked} {a : Answer} → r ≡ x → r ≡ v → a ≡ byText text view words v .answer →
-    a ≡ byText text view words x .answer
-text-answer text view words x e m h = rw (← e, m) h
-
-pub text-buffer : (text : List ℕ) (view : View) (words : List ℕ) (x : Checked) {r v : Checked} {b : List ℕ} → r ≡ x → r ≡ v → b ≡ byText text view words v .buffer →
-    b ≡ byText text view words x .buffer
-text-buffer text view words x e m h = rw (← e, m) h
-
+-- question 3's answer, taken apart
 pub sheet-answer : (text : List ℕ) (view : View) (words : List ℕ) (x : Sheet) {r v : Sheet} {a : Answer} → r ≡ x → r ≡ v → a ≡ bySheet text view words v .answer →
     a ≡ bySheet text view words x .answer
 sheet-answer text view words x e m h = rw (← e, m) h
@@ -272,10 +283,6 @@ module _ (text sheet words : List ℕ) where
         a ≡ readOf text sheet words .answer
     asked-answer s h e = e ∙ ap (λ (o : Outcome). o .answer) (asked-same s h)
 
-    -- the third demand
-    pub exactly : a ≡ readOf text sheet words .answer → Exact text sheet (length words) a
-    exactly e = subst (λ (x : Answer). Exact text sheet (length words) x) (sym e) (exact text sheet words)
-
   pub long-buffer : mostBytes < length text → words ≡ readOf text sheet words .buffer
   long-buffer h = ap (λ (o : Outcome). o .buffer) (long-same h)
 
@@ -285,3 +292,10 @@ module _ (text sheet words : List ℕ) where
   pub asked-buffer : {b : List ℕ} → length text ≤ mostBytes → leastWords ≤ length words → b ≡ bySheet text (seen sheet) words (sheetCheck sheet) .buffer →
       b ≡ readOf text sheet words .buffer
   asked-buffer s h e = e ∙ ap (λ (o : Outcome). o .buffer) (asked-same s h)
+
+-- all that the call promises, by its answer and the words at exit
+pub promised : (text sheet words : List ℕ) {a : Answer} {exit : List ℕ} → a ≡ readOf text sheet words .answer → exit ≡ readOf text sheet words .buffer →
+    ((a ≡ readOf text sheet words .answer) × (exit ≡ readOf text sheet words .buffer))
+    × (Holds (frontOf (a .number) text) words exit × Exact text sheet (length words) a)
+promised text sheet words e f =
+    ((e, f), (read-holds text sheet words e f, subst (λ (x : Answer). Exact text sheet (length words) x) (sym e) (exact text sheet words)))

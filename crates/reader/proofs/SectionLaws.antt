@@ -4,8 +4,9 @@ use native.Mathlib.Omega.{arith}
 use mathlib.Core.Path.{_≡_, refl, sym, ap, _∙_}
 use mathlib.Core.Bool.{true}
 use mathlib.Core.List.{List, [], _∷_, _++_}
-use lib.ListN.{length, length-append}
+use lib.ListN.{length, length-append, set}
 use Rattle.text.specs.Literal.{ascii}
+use Rattle.text.proofs.Tests.{lt-yes}
 use Rattle.tokens.specs.Result.{Res, ok, no, bind}
 use Rattle.tokens.specs.Cursor.{Tok, isWord, accepted}
 use Rattle.tokens.specs.declared.cursor.Cursor.{Cursor}
@@ -63,27 +64,30 @@ pub one-made : (y : Condition) {r none : Conditions} → r ≡ withCondition non
 one-made y e n = e ∙ ap (λ (l : Conditions). withCondition l y) n ∙ condition-puts [] y (omega arith)
 
 -- a list that has room grows by one, so that fewer are left
-trigger-grows : (xs : List Trigger) (list : Triggers) (x : Trigger) {more : Triggers} → list ≡ triggersOf xs → length xs ≤ 4 → (list .count ≡ 4 → ⊥) →
-    more ≡ withTrigger list x → 4 - more .count < 4 - list .count
+below-four : {n : ℕ} → n < 4 → n ≡ 4 → ⊥
+below-four h e = omega arith
+
+trigger-full : (xs : List Trigger) (list : Triggers) → list ≡ triggersOf xs → length xs ≤ 4 → 4 ≤ list .count → list .count ≡ 4
 unfolding triggersOf
-trigger-grows xs list x {more} s few f e =
+trigger-full xs list s few f =
     let here : list .count ≡ length xs = ap (λ (l : Triggers). l .count) s in
-    let room : length xs < 4 = omega arith in
-    let grown : more ≡ triggersOf (xs ++ (x ∷ [])) = e ∙ ap (λ (l : Triggers). withTrigger l x) s ∙ trigger-puts xs x room in
-    let there : more .count ≡ length (xs ++ (x ∷ [])) = ap (λ (l : Triggers). l .count) grown in
-    let one = length-append xs (x ∷ []) in
     omega arith
 
-condition-grows : (xs : List Condition) (list : Conditions) (x : Condition) {more : Conditions} → list ≡ conditionsOf xs → length xs ≤ 4 → (list .count ≡ 4 → ⊥) →
-    more ≡ withCondition list x → 4 - more .count < 4 - list .count
+trigger-set : (list : Triggers) (x : Trigger) → list .count < 4 →
+    record { rows = set (list .rows) (list .count) (record { trigger = x }); count = list .count + 1 } ≡ withTrigger list x
+unfolding withTrigger
+trigger-set list x h = lt-yes (list .count) 4 _ _ h refl
+
+condition-full : (xs : List Condition) (list : Conditions) → list ≡ conditionsOf xs → length xs ≤ 4 → 4 ≤ list .count → list .count ≡ 4
 unfolding conditionsOf
-condition-grows xs list x {more} s few f e =
+condition-full xs list s few f =
     let here : list .count ≡ length xs = ap (λ (l : Conditions). l .count) s in
-    let room : length xs < 4 = omega arith in
-    let grown : more ≡ conditionsOf (xs ++ (x ∷ [])) = e ∙ ap (λ (l : Conditions). withCondition l x) s ∙ condition-puts xs x room in
-    let there : more .count ≡ length (xs ++ (x ∷ [])) = ap (λ (l : Conditions). l .count) grown in
-    let one = length-append xs (x ∷ []) in
     omega arith
+
+condition-set : (list : Conditions) (y : Condition) → list .count < 4 →
+    record { rows = set (list .rows) (list .count) (record { condition = y }); count = list .count + 1 } ≡ withCondition list y
+unfolding withCondition
+condition-set list y h = lt-yes (list .count) 4 _ _ h refl
 
 module _ (t : ℕ → Tok) (view : View) (range : ℕ → Name) (fuel : ℕ) where
   abbrev pub When-going : Res (List Trigger) → Triggers → ℕ → Type 0
@@ -99,6 +103,9 @@ module _ (t : ℕ → Tok) (view : View) (range : ℕ → Name) (fuel : ℕ) whe
   whens-begin i e =
       begin triggersOf withTrigger (λ (l : Triggers). l .count) trigger-counts trigger-puts t (ascii "when") 37 (triggerAt t view range fuel) i e
 
+  whens-four : {whole : Res (List Trigger)} {list : Triggers} {i : ℕ} → When-going whole list i → 4 ≤ list .count → list .count ≡ 4
+  whens-four {list = list} g f = trigger-full (g .entries) list (g .stored) (let r = g .room in omega arith) f
+
   module _ {whole : Res (List Trigger)} {list : Triggers} {p : Cursor} {a : Accepted} (g : When-going whole list (p .index))
       (asked : a ≡ accepted (isWord t (ascii "when") (p .index)) (p .index)) where
     -- the word is not there: the list is finished
@@ -112,25 +119,26 @@ module _ (t : ℕ → Tok) (view : View) (range : ℕ → Name) (fuel : ℕ) whe
       there = was-there _ _ asked m
 
       -- the list is full
-      pub whens-full : {r : Whens} {refusal : Refusal} → list .count ≡ 4 → refusal ≡ record { number = 37; token = p .index; detail = 0 } →
+      pub whens-full : {r : Whens} {refusal : Refusal} → 4 ≤ list .count → refusal ≡ record { number = 37; token = p .index; detail = 0 } →
           r ≡ toWhens (no refusal) → r ≡ toWhens whole
       whens-full f h e =
-          e ∙ rw (h, too-many triggersOf withTrigger (λ (l : Triggers). l .count) trigger-counts trigger-puts t (ascii "when") 37 (triggerAt t view range fuel) g (there .0) f)
+          e ∙ rw (h, too-many triggersOf withTrigger (λ (l : Triggers). l .count) trigger-counts trigger-puts t (ascii "when") 37 (triggerAt t view range fuel) g (there .0) (whens-four g f))
 
-      module _ (f : list .count ≡ 4 → ⊥) {one : TriggerAnswer} (read : one ≡ toTrigger (triggerAt t view range fuel (next .index))) where
+      module _ (f : list .count < 4) {one : TriggerAnswer} (read : one ≡ toTrigger (triggerAt t view range fuel (next .index))) where
         -- the form is refused
         pub whens-stop : {r : Whens} {refusal : Refusal} → one ≡ TriggerAnswer.No refusal → r ≡ toWhens (no refusal) → r ≡ toWhens whole
         whens-stop {refusal = refusal} w e =
             e ∙
-            rw (one-refused triggersOf withTrigger (λ (l : Triggers). l .count) trigger-counts trigger-puts t (ascii "when") 37 (triggerAt t view range fuel) g (there .0) f {r = refusal} (rw (← there .1) (is-trigger _ read w)))
+            rw (one-refused triggersOf withTrigger (λ (l : Triggers). l .count) trigger-counts trigger-puts t (ascii "when") 37 (triggerAt t view range fuel) g (there .0) (below-four f) {r = refusal} (rw (← there .1) (is-trigger _ read w)))
 
         -- one more
         pub whens-on : {x : Trigger} {behind : Cursor} {more : Triggers} → one ≡ TriggerAnswer.Got x behind → more ≡ withTrigger list x → When-going whole more (behind .index)
         whens-on w e =
-            one-more triggersOf withTrigger (λ (l : Triggers). l .count) trigger-counts trigger-puts t (ascii "when") 37 (triggerAt t view range fuel) g (there .0) f (rw (← there .1) (is-trigger _ read w)) e
+            one-more triggersOf withTrigger (λ (l : Triggers). l .count) trigger-counts trigger-puts t (ascii "when") 37 (triggerAt t view range fuel) g (there .0) (below-four f) (rw (← there .1) (is-trigger _ read w)) e
 
-        pub whens-falls : (x : Trigger) {more : Triggers} → more ≡ withTrigger list x → 4 - more .count < 4 - list .count
-        whens-falls x e = trigger-grows (g .entries) list x (g .stored) (let r = g .room in omega arith) f e
+        pub whens-put : {x : Trigger} {behind : Cursor} → one ≡ TriggerAnswer.Got x behind →
+            When-going whole (record { rows = set (list .rows) (list .count) (record { trigger = x }); count = list .count + 1 }) (behind .index)
+        whens-put {x} w = whens-on w (trigger-set list x f)
 
   -- the conditions behind the first x
   abbrev pub behind-first : Condition → ℕ → Res (List Condition)
@@ -161,6 +169,9 @@ module _ (t : ℕ → Tok) (view : View) (range : ℕ → Name) (fuel : ℕ) whe
       first-of [] = ControllerActive
       first-of (r ∷ rs) = r .condition
 
+  ands-four : {begun list : Conditions} {start i : ℕ} → And-loop begun start list i → 4 ≤ list .count → list .count ≡ 4
+  ands-four {list = list} g f = condition-full (g .going .entries) list (g .going .stored) (let r = g .going .room in omega arith) f
+
   module _ {begun list : Conditions} {start : ℕ} {p : Cursor} {a : Accepted} (g : And-loop begun start list (p .index))
       (asked : a ≡ accepted (isWord t (ascii "and") (p .index)) (p .index)) where
     begun-with : (x : Condition) → begun ≡ conditionsOf (x ∷ []) → g .first ≡ x
@@ -185,7 +196,7 @@ module _ (t : ℕ → Tok) (view : View) (range : ℕ → Name) (fuel : ℕ) whe
 
       -- the list is full
       pub ands-full : (whole : Res (List Condition)) (x : Condition) {r : Ifs} {refusal : Refusal} → begun ≡ conditionsOf (x ∷ []) →
-          list .count ≡ 4 → refusal ≡ record { number = 39; token = p .index; detail = 0 } → r ≡ toIfs (no refusal) →
+          4 ≤ list .count → refusal ≡ record { number = 39; token = p .index; detail = 0 } → r ≡ toIfs (no refusal) →
           behind-first x start ≡ whole → r ≡ toIfs whole
       ands-full whole x b f h e w =
           e ∙
@@ -193,10 +204,10 @@ module _ (t : ℕ → Tok) (view : View) (range : ℕ → Name) (fuel : ℕ) whe
             h,
             ← w,
             ← begun-with x b,
-            too-many conditionsOf withCondition (λ (l : Conditions). l .count) condition-counts condition-puts t (ascii "and") 39 (conditionAt t view range fuel) (g .going) (and-there .0) f,
+            too-many conditionsOf withCondition (λ (l : Conditions). l .count) condition-counts condition-puts t (ascii "and") 39 (conditionAt t view range fuel) (g .going) (and-there .0) (ands-four g f),
           )
 
-      module _ (f : list .count ≡ 4 → ⊥) {one : ConditionAnswer} (read : one ≡ toCondition (conditionAt t view range fuel (next .index))) where
+      module _ (f : list .count < 4) {one : ConditionAnswer} (read : one ≡ toCondition (conditionAt t view range fuel (next .index))) where
         -- the form is refused
         pub ands-stop : (whole : Res (List Condition)) (x : Condition) {r : Ifs} {refusal : Refusal} → begun ≡ conditionsOf (x ∷ []) →
             one ≡ ConditionAnswer.No refusal → r ≡ toIfs (no refusal) →
@@ -206,7 +217,7 @@ module _ (t : ℕ → Tok) (view : View) (range : ℕ → Name) (fuel : ℕ) whe
             rw (
               ← h,
               ← begun-with x b,
-              one-refused conditionsOf withCondition (λ (l : Conditions). l .count) condition-counts condition-puts t (ascii "and") 39 (conditionAt t view range fuel) (g .going) (and-there .0) f {r = refusal} (rw (← and-there .1) (is-condition _ read w)),
+              one-refused conditionsOf withCondition (λ (l : Conditions). l .count) condition-counts condition-puts t (ascii "and") 39 (conditionAt t view range fuel) (g .going) (and-there .0) (below-four f) {r = refusal} (rw (← and-there .1) (is-condition _ read w)),
             )
 
         -- one more
@@ -216,8 +227,9 @@ module _ (t : ℕ → Tok) (view : View) (range : ℕ → Name) (fuel : ℕ) whe
             record {
               first = g .first;
               alone = g .alone;
-              going = one-more conditionsOf withCondition (λ (l : Conditions). l .count) condition-counts condition-puts t (ascii "and") 39 (conditionAt t view range fuel) (g .going) (and-there .0) f (rw (← and-there .1) (is-condition _ read w)) e;
+              going = one-more conditionsOf withCondition (λ (l : Conditions). l .count) condition-counts condition-puts t (ascii "and") 39 (conditionAt t view range fuel) (g .going) (and-there .0) (below-four f) (rw (← and-there .1) (is-condition _ read w)) e;
             }
 
-        pub ands-falls : (y : Condition) {more : Conditions} → more ≡ withCondition list y → 4 - more .count < 4 - list .count
-        ands-falls y e = condition-grows (g .going .entries) list y (g .going .stored) (let r = g .going .room in omega arith) f e
+        pub ands-put : {y : Condition} {behind : Cursor} → one ≡ ConditionAnswer.Got y behind →
+            And-loop begun start (record { rows = set (list .rows) (list .count) (record { condition = y }); count = list .count + 1 }) (behind .index)
+        ands-put {y} w = ands-on w (condition-set list y f)

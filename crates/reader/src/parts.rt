@@ -13,7 +13,7 @@ ghost use mathlib.Core.Bool.{true, false};
 ghost use mathlib.Core.List.{[], _∷_};
 ghost use Rattle.tokens.specs.Cursor.{at};
 ghost use Rattle.model.specs.Lists.{triggersOf, conditionsOf, refusedWith};
-ghost use Rattle.reader.specs.Parts.{withTrigger, withCondition, unrefused, placed};
+ghost use Rattle.reader.specs.Parts.{withCondition, unrefused, placed};
 
 // The triggers and the cursor behind them, or a refusal.
 pub struct Whens {
@@ -61,20 +61,7 @@ pub fn no_conditions() -> Conditions
     }
 }
 
-// The list with one more trigger. A full one stays as it is.
-pub fn with_trigger(list: Triggers, x: Trigger) -> Triggers
-    ensures { λ r. ⌜ r ≡ withTrigger list x ⌝ }
-{
-    let at = list.count;
-    if 4 <= at {
-        return list;
-    }
-    let mut more = list;
-    more.rows[at] = TriggerRow { trigger: x };
-    more.count = at + 1;
-    more
-}
-
+// The list with one more condition. A full one stays as it is.
 pub fn with_condition(list: Conditions, y: Condition) -> Conditions
     ensures { λ r. ⌜ r ≡ withCondition list y ⌝ }
 {

@@ -4,17 +4,17 @@ use crate::section;
 use model::Answer;
 use sheet::Settings;
 use sheet::rows::Sheet;
-use text::place::Checked;
 use tokens::cursor::Refusal;
 use tokens::lexer::Lexed;
 ghost use mathlib.Core.Path.{_≡_};
 ghost use Prim.Native.Nat.{_≤_};
 ghost use lib.ListN.{length};
 ghost use Rattle.text.specs.Place.{checkOf};
-ghost use Rattle.tokens.specs.Lex.{lexText, writtenFrom, mostBytes, leastWords};
+ghost use Rattle.tokens.specs.Lex.{mostBytes, leastWords};
+ghost use Rattle.tokens.specs.Buffer.{Holds, frontOf};
 ghost use Rattle.sheet.specs.Sheet.{sheetCheck};
 ghost use Rattle.model.specs.Lists.{refusedWith};
-ghost use Rattle.language.specs.Read.{ruleOf, lexedFrom, byText, bySheet, seen, readOf};
+ghost use Rattle.language.specs.Read.{ruleOf, byText, bySheet, seen, readOf};
 ghost use Rattle.language.specs.Demand.{Exact};
 ghost use Rattle.reader.specs.Parts.{placed, answered};
 
@@ -70,10 +70,11 @@ fn parse(text: &[u8], words: &[u32], sheet: &[u8], line: u32, column: u32) -> An
     placed_at(words, line, column, refusal)
 }
 
-// Lexes the whole text, then parses; questions 1 and 2 are passed, here and below.
-fn lex_and_parse(text: &[u8], sheet: &[u8], words: &mut [u32]) -> Answer
+// The call from question 4 on, which the lexer asks before it lexes the whole text; then the tokens are parsed. Questions 1 and 2 are
+// passed, here and below.
+fn read_text(text: &[u8], sheet: &[u8], words: &mut [u32]) -> Answer
     requires { ⌜ (length (now text) ≤ mostBytes) × (leastWords ≤ length (now words)) ⌝ }
-    ensures { λ r. ⌜ (r ≡ lexedFrom (now (text .entry)) (seen (now (sheet .entry))) (lexText (now (text .entry))) (lexText (now (text .entry)))) × (now (words .exit) ≡ writtenFrom 0 (now (words .entry)) (lexText (now (text .entry)))) ⌝ }
+    ensures { λ r. ⌜ (r ≡ byText (now (text .entry)) (seen (now (sheet .entry))) (now (words .entry)) (checkOf (now (text .entry))) .answer) × (now (words .exit) ≡ byText (now (text .entry)) (seen (now (sheet .entry))) (now (words .entry)) (checkOf (now (text .entry))) .buffer) ⌝ }
 {
     let lexed = tokens::lexer::lex(text, words);
     match lexed {
@@ -96,18 +97,6 @@ fn lex_and_parse(text: &[u8], sheet: &[u8], words: &mut [u32]) -> Answer
     }
 }
 
-// The call from question 4 on.
-fn read_text(text: &[u8], sheet: &[u8], words: &mut [u32]) -> Answer
-    requires { ⌜ (length (now text) ≤ mostBytes) × (leastWords ≤ length (now words)) ⌝ }
-    ensures { λ r. ⌜ (r ≡ byText (now (text .entry)) (seen (now (sheet .entry))) (now (words .entry)) (checkOf (now (text .entry))) .answer) × (now (words .exit) ≡ byText (now (text .entry)) (seen (now (sheet .entry))) (now (words .entry)) (checkOf (now (text .entry))) .buffer) ⌝ }
-{
-    let checked = text::place::check_utf8(text);
-    match checked {
-        Checked::IllFormed { line, column } => refused(4, line, column, 0),
-        Checked::WellFormed => lex_and_parse(text, sheet, words),
-    }
-}
-
 // The call from question 3 on.
 fn read_sheet(text: &[u8], sheet: &[u8], words: &mut [u32]) -> Answer
     requires { ⌜ (length (now text) ≤ mostBytes) × (leastWords ≤ length (now words)) ⌝ }
@@ -121,9 +110,11 @@ fn read_sheet(text: &[u8], sheet: &[u8], words: &mut [u32]) -> Answer
 }
 
 // Reads a rule text with a name sheet. The tokens' records go to the lent words. The answer, and each word at exit, are those of the definition of the whole
-// call; and the third demand: it is accepted exactly when the text has a reading with the sheet, with that reading's lists.
+// call; said in other words, the first words are the records of the tokens completed before the refusal, or of all, and every other word is the one that was
+// there; and the third demand: it is accepted exactly when the text has a reading with the sheet, with that reading's lists.
 pub fn read(text: &[u8], sheet: &[u8], words: &mut [u32]) -> Answer
     ensures { λ r. ⌜ (r ≡ readOf (now (text .entry)) (now (sheet .entry)) (now (words .entry)) .answer) × (now (words .exit) ≡ readOf (now (text .entry)) (now (sheet .entry)) (now (words .entry)) .buffer) ⌝ }
+    ensures buffer { λ r. ⌜ Holds (frontOf (r .number) (now (text .entry))) (now (words .entry)) (now (words .exit)) ⌝ }
     ensures reading { λ r. ⌜ Exact (now (text .entry)) (now (sheet .entry)) (length (now (words .entry))) r ⌝ }
 {
     if tokens::lexer::MOST_BYTES < text.len() {

@@ -4,7 +4,9 @@ use crate::parts::Ifs;
 use crate::parts::Rule;
 use crate::parts::Whens;
 use model::Condition;
+use model::ConditionRow;
 use model::Conditions;
+use model::TriggerRow;
 use model::Triggers;
 use sections::condition;
 use sections::condition::ConditionAnswer;
@@ -50,7 +52,7 @@ fn whens_done(list: Triggers, next: Cursor) -> Whens
     }
 }
 
-// As many triggers as there are `when`s; a fifth is refused with 37.
+// As many triggers as there are `when`s; a fifth is refused with 37. Each is written to its place in the list, which is not copied.
 fn whens(c: Cursor, text: &[u8], words: &[u32], s: &[u8], settings: Settings) -> Whens
     ensures { λ r. ⌜ r ≡ toWhens (repeated (tokens (now (text .entry)) (now (words .entry))) (ascii "when") 37 (triggerAt (tokens (now (text .entry)) (now (words .entry))) (viewOf settings (now (s .entry))) (rangeOf (now (words .entry))) (capacity (now (words .entry)))) 4 (c .index)) ⌝ }
 {
@@ -64,7 +66,7 @@ fn whens(c: Cursor, text: &[u8], words: &[u32], s: &[u8], settings: Settings) ->
                 return whens_done(list, p);
             }
             Accepted::Yes(next) => {
-                if list.count == 4 {
+                if 4 <= list.count {
                     return whens_refused(tokens::cursor::refuse(37, i));
                 }
                 let one = trigger::trigger_at(next, text, words, s, settings);
@@ -73,7 +75,9 @@ fn whens(c: Cursor, text: &[u8], words: &[u32], s: &[u8], settings: Settings) ->
                         return whens_refused(refusal);
                     }
                     TriggerAnswer::Got(x, behind) => {
-                        list = parts::with_trigger(list, x);
+                        let at = list.count;
+                        list.rows[at] = TriggerRow { trigger: x };
+                        list.count = at + 1;
                         p = behind;
                     }
                 }
@@ -136,7 +140,7 @@ fn ands(
                 return ifs_done(list, p);
             }
             Accepted::Yes(next) => {
-                if list.count == 4 {
+                if 4 <= list.count {
                     return ifs_refused(tokens::cursor::refuse(39, i));
                 }
                 let one = condition::condition_at(next, text, words, s, settings);
@@ -145,7 +149,9 @@ fn ands(
                         return ifs_refused(refusal);
                     }
                     ConditionAnswer::Got(y, behind) => {
-                        list = parts::with_condition(list, y);
+                        let at = list.count;
+                        list.rows[at] = ConditionRow { condition: y };
+                        list.count = at + 1;
                         p = behind;
                     }
                 }

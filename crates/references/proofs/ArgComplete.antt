@@ -147,7 +147,7 @@ unfolding tokens
 no-token text words k h = no-kind words k h
 
 -- a token stands before the end
-token-before : {t : ℕ → Tok} {fuel kind i n j : ℕ} → ((k : ℕ) → fuel ≤ k → t k .kind ≡ 0) → (kind ≡ 0 → ⊥) → Token t kind i n j → i < fuel
+pub token-before : {t : ℕ → Tok} {fuel kind i n j : ℕ} → ((k : ℕ) → fuel ≤ k → t k .kind ≡ 0) → (kind ≡ 0 → ⊥) → Token t kind i n j → i < fuel
 token-before {fuel = fuel} {i = i} end n h = by (decLe fuel i)
   where
     by : Dec (fuel ≤ i) → i < fuel

@@ -7,3 +7,5 @@ pub mod ItemLaws
 pub mod ArgSound
 pub mod ArgComplete
 pub mod NumberLaws
+pub mod FuelLaws
+pub mod RangeLaws

@@ -127,7 +127,8 @@ argAt t view count i = bind (slotAt t count i) (λ slot j. itemAt t view slot j)
 unfoldable pub countWith : (ℕ → Tok) → ℕ → ℕ → ℕ
 countWith t count i = pick (isNamed t i) count (pick (ltb count 2) (count + 1) 2)
 
--- the arguments from i on, put to those in a; fuel bounds their number
+-- the arguments from i on, put to those in a; fuel bounds their number, and as much of it as there are tokens never runs out
+-- (proofs/FuelLaws.antt)
 unfoldable pub argsFrom : (ℕ → Tok) → View → ℕ → Args → ℕ → ℕ → Res Args
 argsFrom t view zero a count i = refuse 20 i
 argsFrom t view (suc fuel) a count i =

@@ -1,5 +1,6 @@
 -- The grammar of references (document 01, "Grammar"): which readings the tokens t have with what is seen of the sheet. `Form t … i v j`: the tokens
--- from i up to j read as v. Nothing here mentions what the reader answers.
+-- from i up to j read as v. No rule mentions a function of the reader or a definition of what is answered (Refs.antt, Args.antt); names and
+-- ids, adapters and arguments have the types that the reader has for them.
 use Prim.Native.Nat.{ℕ, _+_, _≤_}
 use mathlib.Core.Path.{_≡_}
 use mathlib.Core.Bool.{Bool, true, false}

@@ -42,22 +42,14 @@ fn accepted(text: &[u8], words: &[u32], answer: &[u32]) {
     say::numbers(answer, b"accepted: %n3 token%P3\n");
 }
 
-// Does a refusal say that a text cannot be cut into tokens?
-fn is_uncut(number: u32) -> bool {
-    number != 0 && number < 20
-}
-
-// The tokens of the text. The reader is asked for refusals 1 to 19, with the least sheet that there is: it also sees that the text is UTF-8.
+// The tokens of the text, or the refusal of lexing, which no sheet plays a part in.
 fn answered(text: &[u8], name: &[u8]) {
-    let sheet = b"primary,0";
     let mut words = [0u32; 6144];
-    let mut answer = [0u32; 108];
-    reading::read(text, sheet, &mut words, &mut answer);
-    if is_uncut(layout::number(&answer)) {
-        diagnose::show(text, sheet, &mut words, &answer, name, name);
+    let mut answer = [0u32; 4];
+    if reading::lex(text, &mut words, &mut answer) != 0 {
+        diagnose::show(text, b"", &mut words, &answer, name, name);
         return;
     }
-    reading::lex(text, &mut words, &mut answer);
     accepted(text, &words, &answer);
 }
 

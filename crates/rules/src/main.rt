@@ -38,8 +38,10 @@ fn usage() {
   rules help                prints this
 
 check prints each trigger and each condition in plain words, or one refusal: its place, what stands there, what
-belongs there, and a way out. The last line begins with `accepted` or `refused`. The exit status is always 0, since the
-language of this program cannot set another: a script reads the last line.
+belongs there, and a way out. The last line begins with `accepted`, or with `refused` and the refusal's number; if the
+arguments are bad or a file cannot be read, it says that behind `refused`. The exit status of this program is always 0,
+since its language cannot set another. The script ./rules, which runs it, gives 0 for accepted, 1 for refused, 2 for bad
+arguments and for files that cannot be read.
 ",
     );
 }
@@ -48,7 +50,8 @@ language of this program cannot set another: a script reads the last line.
 fn bad_arguments(wrong: u32) {
     let table = b"_ there is no such command
 1 check takes two files: a rule and a name sheet
-2 tokens takes one file: a rule";
+2 tokens takes one file: a rule
+3 there is no such option; before the name of a file that begins with a dash write ./";
     out::entry(table, wrong);
     out::bytes(
         b"\nusage: rules check RULES SHEET | rules tokens RULES | rules help\nrefused: bad arguments\n",
@@ -61,10 +64,21 @@ fn is_help(command: &[u8]) -> bool {
         || text::part::same(command, b"-h")
 }
 
+// Does the word behind the command begin with a dash? Of a long word its first byte is enough.
+fn is_option() -> bool {
+    let mut first = [0u8; 1];
+    os::arg(2, &mut first);
+    first[0] == b'-'
+}
+
 // Runs a command of a call with so many arguments, its own name and the command among them.
 fn run(command: &[u8], count: usize) {
     if is_help(command) {
         usage();
+        return;
+    }
+    if is_option() {
+        bad_arguments(3);
         return;
     }
     if text::part::same(command, b"check") {

@@ -1,5 +1,6 @@
 pub mod AnswerChain
 pub mod SignedLaws
+pub mod FirstLaws
 pub mod ValueChain
 pub mod TriggerChain
 pub mod ConditionChain

@@ -1,6 +1,7 @@
 // Conditions, ported from condition.rs.
 use crate::expr;
 use crate::expr::ValueAnswer;
+use crate::first;
 use crate::name;
 use crate::timeval;
 use crate::timeval::BoundAnswer;
@@ -626,12 +627,7 @@ pub fn condition_at(
     ensures { λ r. ⌜ r ≡ toCondition (conditionAt (tokens (now (text .entry)) (now (words .entry))) (viewOf settings (now (s .entry))) (rangeOf (now (words .entry))) (capacity (now (words .entry))) (c .index)) ⌝ }
 {
     let i = c.index;
-    let word = c.expect_choice(
-        text,
-        words,
-        b"time sun lamp group input hcl device rule last_fired timer controller var day",
-        21,
-    );
+    let word = first::condition_word(c, text, words);
     match word {
         Taken::No(refusal) => return ConditionAnswer::No(refusal),
         Taken::Got(n, behind) => return condition_by(i, n, behind, text, words, s, settings),

@@ -1,4 +1,5 @@
 // Triggers, ported from trigger.rs.
+use crate::first;
 use crate::name;
 use crate::timeval;
 use crate::timeval::BoundAnswer;
@@ -731,12 +732,7 @@ pub fn trigger_at(
     ensures { λ r. ⌜ r ≡ toTrigger (triggerAt (tokens (now (text .entry)) (now (words .entry))) (viewOf settings (now (s .entry))) (rangeOf (now (words .entry))) (capacity (now (words .entry))) (c .index)) ⌝ }
 {
     let i = c.index;
-    let word = c.expect_choice(
-        text,
-        words,
-        b"input at every lamp group scene device hcl timer controller rule http mqtt",
-        21,
-    );
+    let word = first::trigger_word(c, text, words);
     match word {
         Taken::No(refusal) => return TriggerAnswer::No(refusal),
         Taken::Got(n, behind) => return trigger_by(i, n, behind, text, words, s, settings),

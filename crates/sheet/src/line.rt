@@ -3,8 +3,9 @@ use crate::kind;
 use model::limits;
 ghost use mathlib.Core.Path.{_≡_};
 ghost use mathlib.Core.Bool.{not};
-ghost use Prim.Native.Nat.{ℕ, _-_};
-ghost use Rattle.text.specs.Block.{block, Row};
+ghost use Prim.Native.Nat.{ℕ, _+_, _-_};
+ghost use lib.ListN.{length};
+ghost use Rattle.text.specs.Block.{block};
 ghost use Rattle.bytes.specs.Bytes.{indexOf};
 ghost use Rattle.sheet.specs.Line.{rest, numeral, isMark, plain, isName, digitsOn, checkedRow, readRow, primaryOf, adapterOf, lineBy, lineOf, nameOf};
 
@@ -138,22 +139,11 @@ fn eight_unmarked(l: &[u8], at: usize) -> bool
         | ((l[at + 7] == b',') | (l[at + 7] == b'"')))
 }
 
-// Behind the blocks of eight such bytes that stand in a row from the start on.
-fn unmarked_blocks(l: &[u8]) -> usize
-    ensures { λ r. ⌜ Row (λ (c : ℕ). not (isMark c)) (now (l .entry)) 0 r ⌝ }
-{
-    let mut at: usize = 0;
-    while eight_unmarked(l, at) {
-        at = at + 8;
-    }
-    at
-}
-
-// No comma and no quote?
-fn is_plain(l: &[u8]) -> bool
+// No comma and no quote, asked byte by byte?
+fn each_plain(l: &[u8]) -> bool
     ensures { λ r. ⌜ r ≡ plain (now (l .entry)) ⌝ }
 {
-    let mut i = unmarked_blocks(l);
+    let mut i: usize = 0;
     while i < l.len() {
         if is_mark(l[i]) {
             return false;
@@ -161,6 +151,33 @@ fn is_plain(l: &[u8]) -> bool
         i += 1;
     }
     true
+}
+
+// No comma and no quote, asked of eight bytes at a time? The last eight begin at an offset, and some of them may have been tested before.
+fn blocks_plain(l: &[u8], last: usize) -> bool
+    requires { ⌜ length (now l) ≡ last + 8 ⌝ }
+    ensures { λ r. ⌜ r ≡ plain (now (l .entry)) ⌝ }
+{
+    let mut at: usize = 0;
+    while at < last {
+        if eight_unmarked(l, at) {
+            at = at + 8;
+        } else {
+            return false;
+        }
+    }
+    eight_unmarked(l, last)
+}
+
+// No comma and no quote?
+fn is_plain(l: &[u8]) -> bool
+    ensures { λ r. ⌜ r ≡ plain (now (l .entry)) ⌝ }
+{
+    let len = l.len();
+    if len < 8 {
+        return each_plain(l);
+    }
+    blocks_plain(l, len - 8)
 }
 
 fn checked_row(kind: u32, adapter: u32, number: u32, name: &[u8]) -> Line

@@ -1,22 +1,15 @@
 -- Answers as words, for callers in C and Rust.
 use Prim.Native.Nat.{ℕ}
 use mathlib.Core.List.{List, [], _∷_}
-use lib.ListN.{length}
 use lib.Seq.{sets}
-use lib.Dec.{ltb}
-use Rattle.text.specs.Choice.{pick}
 use Rattle.text.specs.Place.{counted}
 use Rattle.tokens.specs.declared.lexer.Lexed.{Lexed}
 use Rattle.tokens.specs.declared.lexer.Lexed.the-variants.{Tokens, Refused}
+use Rattle.tergyosul.specs.Room.{lexAnswerWords, byRoom}
 
 -- four words at the front of the lent ones; these are unchanged where they are fewer
 unfoldable pub fourFirst : List ℕ → ℕ → ℕ → ℕ → ℕ → List ℕ
-fourFirst words a b c d = pick (ltb (length words) 4) words (sets words 0 (a ∷ b ∷ c ∷ d ∷ []))
-
--- 0, or the number of the refusal
-unfoldable pub lexNumber : Lexed → ℕ
-lexNumber (Tokens count line column) = 0
-lexNumber (Refused number line column) = number
+fourFirst words a b c d = byRoom lexAnswerWords words words (sets words 0 (a ∷ b ∷ c ∷ d ∷ []))
 
 -- number, line, column, and the count of the tokens; on acceptance line and column are those of the text's end
 unfoldable pub lexFlat : Lexed → List ℕ → List ℕ

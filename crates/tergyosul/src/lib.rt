@@ -2,15 +2,23 @@
 use tokens::lexer::Lexed;
 ghost use mathlib.Core.Path.{_≡_};
 ghost use Rattle.tokens.specs.Lex.{lexAnswer, lexWords};
+ghost use Rattle.tokens.specs.Buffer.{lexNumber};
 ghost use Rattle.language.specs.Read.{readOf};
-ghost use Rattle.tergyosul.specs.Lexing.{fourFirst, lexNumber, lexFlat};
-ghost use Rattle.flat.specs.Flat.{flat};
+ghost use Rattle.tergyosul.specs.Lexing.{fourFirst, lexFlat};
+ghost use Rattle.tergyosul.specs.Room.{noRoom, lexAnswerWords, byRoom};
+ghost use Rattle.flat.specs.Flat.{answerWords, flat};
+
+// The result of a call that has no room for its answer. It is no refusal's number.
+const NO_ROOM: u32 = 4294967295;
+
+// The length of an answer of `tergyosul_lex`: number, line, column, count.
+const LEX_WORDS: usize = 4;
 
 // Writes four words at the front; none where there is no room.
 fn put_four(words: &mut [u32], a: u32, b: u32, c: u32, d: u32)
     ensures { λ _. ⌜ now (words .exit) ≡ fourFirst (now (words .entry)) a b c d ⌝ }
 {
-    if words.len() < 4 {
+    if words.len() < LEX_WORDS {
         return;
     }
     words[0] = a;
@@ -19,14 +27,18 @@ fn put_four(words: &mut [u32], a: u32, b: u32, c: u32, d: u32)
     words[3] = d;
 }
 
-// Lexes a text. The records of its tokens go to words. The result is 0, or the number of the refusal; answer gets number, line,
-// column and the count of the tokens, if it has room for these four words.
+// Lexes a text: questions 1, 2 and 4, then 10 to 19. The records of its tokens go to words. The result is 0, or the number of the
+// refusal; answer gets number, line, column and the count of the tokens. If answer has fewer than these four words, nothing is lexed or
+// written, and the result is NO_ROOM.
 #[no_mangle]
 pub extern "C" fn tergyosul_lex(text: &[u8], words: &mut [u32], answer: &mut [u32]) -> u32
-    ensures number { λ r. ⌜ r ≡ lexNumber (lexAnswer (now (text .entry)) (now (words .entry))) ⌝ }
-    ensures words { λ _. ⌜ now (words .exit) ≡ lexWords (now (text .entry)) (now (words .entry)) ⌝ }
+    ensures number { λ r. ⌜ r ≡ byRoom lexAnswerWords (now (answer .entry)) noRoom (lexNumber (lexAnswer (now (text .entry)) (now (words .entry)))) ⌝ }
+    ensures words { λ _. ⌜ now (words .exit) ≡ byRoom lexAnswerWords (now (answer .entry)) (now (words .entry)) (lexWords (now (text .entry)) (now (words .entry))) ⌝ }
     ensures answer { λ _. ⌜ now (answer .exit) ≡ lexFlat (lexAnswer (now (text .entry)) (now (words .entry))) (now (answer .entry)) ⌝ }
 {
+    if answer.len() < LEX_WORDS {
+        return NO_ROOM;
+    }
     let lexed = tokens::lexer::lex(text, words);
     match lexed {
         Lexed::Tokens {
@@ -48,8 +60,8 @@ pub extern "C" fn tergyosul_lex(text: &[u8], words: &mut [u32], answer: &mut [u3
     }
 }
 
-// Reads a rule text with a name sheet. The result is 0, or the number of the refusal; answer gets the whole answer, if it has room for
-// these 108 words. The words are lent for the records of the tokens: at least 6,144.
+// Reads a rule text with a name sheet. The result is 0, or the number of the refusal; answer gets the whole answer. If it has no room for
+// that, nothing is read or written, and the result is NO_ROOM. The words are lent for the records of the tokens: at least 6,144.
 #[no_mangle]
 pub extern "C" fn tergyosul_read(
     text: &[u8],
@@ -57,10 +69,13 @@ pub extern "C" fn tergyosul_read(
     words: &mut [u32],
     answer: &mut [u32],
 ) -> u32
-    ensures number { λ r. ⌜ r ≡ readOf (now (text .entry)) (now (sheet .entry)) (now (words .entry)) .answer .number ⌝ }
-    ensures words { λ _. ⌜ now (words .exit) ≡ readOf (now (text .entry)) (now (sheet .entry)) (now (words .entry)) .buffer ⌝ }
+    ensures number { λ r. ⌜ r ≡ byRoom answerWords (now (answer .entry)) noRoom (readOf (now (text .entry)) (now (sheet .entry)) (now (words .entry)) .answer .number) ⌝ }
+    ensures words { λ _. ⌜ now (words .exit) ≡ byRoom answerWords (now (answer .entry)) (now (words .entry)) (readOf (now (text .entry)) (now (sheet .entry)) (now (words .entry)) .buffer) ⌝ }
     ensures answer { λ _. ⌜ now (answer .exit) ≡ flat (now (answer .entry)) (readOf (now (text .entry)) (now (sheet .entry)) (now (words .entry)) .answer) ⌝ }
 {
+    if answer.len() < flat::ANSWER_WORDS {
+        return NO_ROOM;
+    }
     let a = reader::read::read(text, sheet, words);
     flat::put_answer(answer, a);
     a.number

@@ -7,6 +7,7 @@ pub mod Utf8Rules
 pub mod CharLaws
 pub mod StepLaws
 pub mod PlaceRules
+pub mod WithinLaws
 pub mod PartLaws
 pub mod FindLaws
 pub mod SplitLaws

@@ -14,7 +14,7 @@ use Rattle.text.specs.Rfc3629.{Utf8-char, Utf8-octets, Starts, Starts-no
 use Rattle.text.specs.Rfc3629.Utf8-octets.{none, more}
 use Rattle.text.specs.Rfc3629.Stands.{char, bad, end}
 use Rattle.text.specs.Utf8.{decodeAt, Character, codes, chars}
-use Rattle.text.specs.Place.{counted, lineFeeds, sinceLineFeed, lineAfter, columnAfter, after, start, walked, judge, checkOf, Judged}
+use Rattle.text.specs.Place.{mostHeld, counted, lineFeeds, sinceLineFeed, lineAfter, columnAfter, after, start, walked, judge, checkOf, Judged}
 use Rattle.text.specs.Place.Judged.{well-formed, ill-formed}
 use Rattle.text.specs.declared.utf8.Decoded.{Decoded}
 use Rattle.text.specs.declared.utf8.Decoded.the-variants.{Char}
@@ -28,9 +28,9 @@ use Rattle.text.proofs.CharLaws.{some-bytes, char-inside, chars-char, c
 pub count-on : (n : ℕ) → counted (counted n + 1) ≡ counted (n + 1)
 unfolding counted
 count-on n =
-    picked (λ (m : ℕ). counted (m + 1) ≡ counted (n + 1)) (ltb n 4294967295)
+    picked (λ (m : ℕ). counted (m + 1) ≡ counted (n + 1)) (ltb n mostHeld)
     (λ h. refl)
-    (λ h. sym (rw (le-ltb (n + 1) 4294967295 (omega (arith, ltb-false)))))
+    (λ h. sym (rw (le-ltb (n + 1) mostHeld (omega (arith, ltb-false)))))
 
 -- LF or not, the line that is held moves on as the number k that it stands for
 held-line : (t : Bool) {l : ℕ} (k : ℕ) → l ≡ counted k → pick t (counted (l + 1)) l ≡ counted (pick t (k + 1) k)

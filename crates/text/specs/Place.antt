@@ -1,5 +1,5 @@
 -- Places in a text: line and column count characters from 1, and only LF starts a line (document 01, "Tokens and places").
-use Prim.Native.Nat.{ℕ, _+_, _<_}
+use Prim.Native.Nat.{ℕ, _+_, _<_, _≤_}
 use mathlib.Core.Path.{_≡_}
 use mathlib.Core.List.{List, [], _∷_, _++_}
 use lib.ListN.{length}
@@ -13,9 +13,13 @@ use Rattle.text.specs.declared.place.Step.the-variants.{Next, Stop}
 use Rattle.text.specs.declared.place.Checked.{Checked}
 use Rattle.text.specs.declared.place.Checked.the-variants.{WellFormed, IllFormed}
 
+-- the greatest number that is held in 32 bits
+abbrev pub mostHeld : ℕ
+mostHeld = 4294967295
+
 -- a line or column that is held in 32 bits: it stops at the greatest number, which only a text of over 4,294,967,293 bytes reaches
 unfoldable pub counted : ℕ → ℕ
-counted n = pick (ltb n 4294967295) n 4294967295
+counted n = pick (ltb n mostHeld) n mostHeld
 
 -- how many of these characters are LF
 unfoldable pub lineFeeds : List ℕ → ℕ
@@ -34,7 +38,17 @@ lineAfter cs = counted (lineFeeds cs + 1)
 unfoldable pub columnAfter : List ℕ → ℕ
 columnAfter cs = counted (sinceLineFeed cs + 1)
 
--- the same, one character at a time
+-- the same with nothing cut
+pub record Counts (cs : List ℕ) (line column : ℕ) : Type 0 where
+  pub line-is : line ≡ lineFeeds cs + 1
+  pub column-is : column ≡ sinceLineFeed cs + 1
+
+-- a line and a column of s: at most its bytes and one, so that none is cut unless the text is as long as numbers of 32 bits go
+pub record Within (s : List ℕ) (line column : ℕ) : Type 0 where
+  pub line-most : line ≤ length s + 1
+  pub column-most : column ≤ length s + 1
+
+-- a place, moved on by one character
 unfoldable pub after : Place → Character → Place
 after p ch =
     record {

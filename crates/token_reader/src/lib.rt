@@ -1,25 +1,13 @@
 // A reader that holds the lent token words beside an index, ported from cursor.rs. The borrow checker covers no function over such a
 // struct, so each is proved by hand, takes it apart once, and leaves the work to a function of the cursor by value, which is covered.
 use tokens::cursor::Cursor;
-use tokens::record;
 ghost use mathlib.Core.Path.{_≡_};
 ghost use Rattle.tokens.specs.Record.{kindAt};
-ghost use Rattle.token_reader.specs.Reader.{behind};
+ghost use Rattle.tokens.specs.Cursor.{advanced};
 
 pub struct TokenReader<'a> {
     pub words: &'a [u32],
     pub index: usize,
-}
-
-// The work of advance: the index behind the token in hand; at the end the same index.
-pub fn further(c: Cursor, words: &[u32]) -> usize
-    ensures { λ r. ⌜ r ≡ behind (now (words .entry)) (c .index) ⌝ }
-{
-    let i = c.index;
-    if record::count(words) <= i {
-        return i;
-    }
-    i + 1
 }
 
 // At the first token.
@@ -39,13 +27,13 @@ pub fn peek<'a>(r: TokenReader<'a>) -> u32
 
 // The reader behind the token in hand, over the same words; at the end it stays.
 pub fn advance<'a>(r: TokenReader<'a>) -> TokenReader<'a>
-    ensures { λ q. ⌜ (q .words ≡ r .entry .words) × (q .index ≡ behind (now (r .entry .words)) (r .entry .index)) ⌝ }
+    ensures { λ q. ⌜ (q .words ≡ r .entry .words) × (q .index ≡ advanced (now (r .entry .words)) (r .entry .index)) ⌝ }
 {
     let c = Cursor { index: r.index };
-    let i = further(c, r.words);
+    let next = c.advance(r.words);
     TokenReader {
         words: r.words,
-        index: i,
+        index: next.index,
     }
 }
 

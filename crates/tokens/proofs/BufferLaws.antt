@@ -18,7 +18,7 @@ use Rattle.text.proofs.Tests.{picked}
 use Rattle.tokens.specs.Record.{capacity, wordsOf, written, wordAt, kindAt, lineAt, columnAt}
 use Rattle.tokens.specs.Cursor.{tokens}
 use Rattle.tokens.specs.Lex.{recordOf, Lexing, ended, refused, token, lexText, answerFrom, writtenFrom, lexeme, lexAt, lexNoMore, behind as past-trivia, lexFrom}
-use Rattle.tokens.specs.Layout.{Symbol, Spelled, Laid, Lexical, no-token, unterminated, too-large, no-time, places, no-unit, long, fine, too-many}
+use Rattle.tokens.specs.Layout.{Laid, Lexical, no-token, unterminated, too-large, no-time, places, no-unit, long, fine, too-many}
 use Rattle.tokens.specs.declared.record.Record.{Record}
 use Rattle.tokens.specs.declared.lexer.Lexed.{Lexed}
 use Rattle.tokens.specs.declared.lexer.Lexed.the-variants.{Tokens, Refused}
@@ -27,6 +27,7 @@ use Rattle.tokens.specs.Token.{look, tokenAt}
 use Rattle.tokens.specs.declared.lexer.Lexeme.{Lexeme}
 use Rattle.tokens.specs.declared.lexer.Lexeme.the-variants.{Token}
 use Rattle.tokens.proofs.LayoutLaws.{laid}
+use Rattle.tokens.proofs.SpelledLaws.{kind-some}
 
 -- ---- limits on the number of tokens, and refusals
 
@@ -126,12 +127,12 @@ same-test a b c d f g = by (decLt a b)
     by (no h) = le-ltb c d (g (omega arith)) ∙ sym (le-ltb a b (omega arith))
 
 -- the words of the first record, and those of the records behind it
-first-word : (r : Record) (words : List ℕ) (k : ℕ) → wordAt (wordsOf r ++ words) 0 k ≡ getD (wordsOf r ++ words) k 0
+pub first-word : (r : Record) (words : List ℕ) (k : ℕ) → wordAt (wordsOf r ++ words) 0 k ≡ getD (wordsOf r ++ words) k 0
 unfolding wordAt capacity wordsOf
 first-word r words k =
     rw (lt-ltb 0 (length (wordsOf r ++ words) / 6) (omega arith), zero-add k)
 
-next-word : (r : Record) (words : List ℕ) (i k : ℕ) → wordAt (wordsOf r ++ words) (suc i) k ≡ wordAt words i k
+pub next-word : (r : Record) (words : List ℕ) (i k : ℕ) → wordAt (wordsOf r ++ words) (suc i) k ≡ wordAt words i k
 unfolding wordAt capacity wordsOf
 next-word r words i k =
     let at : suc i * 6 + k ≡ suc (suc (suc (suc (suc (suc (i * 6 + k)))))) = omega arith in
@@ -217,7 +218,7 @@ answer-refused k (refused number p) e = (ap first-in e, ap line-of e, ap column-
 answer-refused k (token r l) e = answer-refused (k + 1) l e
 
 -- a record that is written leaves as many words
-written-size : (words : List ℕ) (i : ℕ) (r : Record) → length (written words i r) ≡ length words
+pub written-size : (words : List ℕ) (i : ℕ) (r : Record) → length (written words i r) ≡ length words
 unfolding written
 written-size words i r =
     picked (λ (ws : List ℕ). length ws ≡ length words) (ltb i (capacity words)) (λ h. length-sets words (i * 6) (wordsOf r)) (λ h. refl)
@@ -233,7 +234,7 @@ pub buffer-size : (words : List ℕ) (l : Lexing) → length (writtenFrom 0 word
 buffer-size words l = buffer-size-from 0 words l
 
 -- where there is room, the words before a record stay, and behind them stands the record
-written-front : (words : List ℕ) (i : ℕ) (r : Record) → (i + 1) * 6 ≤ length words →
+pub written-front : (words : List ℕ) (i : ℕ) (r : Record) → (i + 1) * 6 ≤ length words →
     take ((i + 1) * 6) (written words i r) ≡ take (i * 6) words ++ wordsOf r
 unfolding written capacity wordsOf
 written-front words i r h =
@@ -265,34 +266,6 @@ buffer-records {l} {n} words e h =
     ap (λ (k : ℕ). take (k * 6) (writtenFrom 0 words l)) (sym (zero-add n)) ∙ records-from 0 words e (omega arith)
 
 -- kinds of tokens are above 0
-symbol-some : {cs : List ℕ} {kind : ℕ} → Symbol cs kind → 1 ≤ kind
-symbol-some Symbol.open-paren = omega arith
-symbol-some Symbol.close-paren = omega arith
-symbol-some Symbol.open-brace = omega arith
-symbol-some Symbol.close-brace = omega arith
-symbol-some Symbol.comma = omega arith
-symbol-some Symbol.dot = omega arith
-symbol-some Symbol.dot-dot = omega arith
-symbol-some Symbol.assign = omega arith
-symbol-some Symbol.equal = omega arith
-symbol-some Symbol.unequal = omega arith
-symbol-some Symbol.at-least = omega arith
-symbol-some Symbol.at-most = omega arith
-symbol-some Symbol.greater = omega arith
-symbol-some Symbol.less = omega arith
-symbol-some Symbol.plus = omega arith
-symbol-some Symbol.minus = omega arith
-
-kind-some : {cs : List ℕ} {kind number : ℕ} → Spelled cs kind number → 1 ≤ kind
-kind-some (Spelled.word a b) = omega arith
-kind-some (Spelled.string a b) = omega arith
-kind-some (Spelled.integer a) = omega arith
-kind-some (Spelled.time a b c d e f) = omega arith
-kind-some (Spelled.duration a b c d) = omega arith
-kind-some (Spelled.decimal-duration a b c d e) = omega arith
-kind-some (Spelled.decimal a b c d e) = omega arith
-kind-some (Spelled.symbol a) = symbol-some a
-
 kinds-some : {s : List ℕ} {before : List Character} {l : Lexing} {n : ℕ} → Laid s before l → Ended l n → (i : ℕ) → i < n →
     1 ≤ kindAt (recordWords l) i
 unfolding recordWords kindAt wordsOf recordOf

@@ -107,7 +107,7 @@ octets-between s a u r e =
     let i = row s start a (u ++ r) e in
     rw (walked-on start a u) (octets (row s (walked start a) u r (i .rest) .reads))
 
--- the line and the column of a place that is reached are those counts
+-- the line and the column of a place that is reached are those counts, held in 32 bits; in PlacedLaws.antt with nothing cut
 pub place-counts : (cs : List Character) →
     (walked start cs .line ≡ lineAfter (codes cs)) × (walked start cs .column ≡ columnAfter (codes cs))
 place-counts cs = (line-walked cs, column-walked cs)

@@ -1,9 +1,8 @@
 -- Each token that specs/Token.antt gives is spelled as specs/Layout.antt says, and each refusal is one of the lexer's.
 use mathlib.Core.Path.{_≡_, refl, ap}
 use mathlib.Core.Bool.{true, false}
-use Prim.Native.Nat.{ℕ, zero, suc, _+_, _-_, _*_, _/_, _%_, _^_, _≤_}
+use Prim.Native.Nat.{ℕ, zero, suc, _+_, _-_, _*_, _^_, _≤_}
 use native.Mathlib.Omega.{arith}
-use native.Mathlib.Nat.{div-add-mod'}
 use mathlib.Core.List.{List, [], _∷_, _++_, append-assoc}
 use lib.ListN.{length}
 use lib.Dec.{ltb, eqb}
@@ -19,19 +18,21 @@ use Rattle.text.proofs.PartLaws.{same-eq}
 use Rattle.text.proofs.StepLaws.{Stepped}
 use Rattle.text.specs.Ascii.{isDigit, isAlpha, isWordStart, isWordPart}
 use Rattle.tokens.specs.Scan.{quoted, digits}
-use Rattle.tokens.specs.Duration.{unitOf, below64, wholeMs, totalMs, amount}
+use Rattle.tokens.specs.Kind.{DURATION}
+use Rattle.tokens.specs.Duration.{unitOf, amount}
+use Rattle.tokens.specs.Amount.{Amounts, mostMs, Judged-amount, beyond, fine, long, exact}
 use Rattle.tokens.specs.Token.{look, singleKind, pairKind, single, punct, string, spanning, digitsIn, timeBy, time, decimal, amountTo}
 use Rattle.tokens.specs.Token.{durationBy, duration, fractionAt, fraction, point, numberAt, number, word, tokenAt}
-use Rattle.tokens.specs.Layout.{Digits, value, Unit-of, Symbol, Spelled, Lexical, firstByte, endByte}
+use Rattle.tokens.specs.Layout.{Digits, value, Unit-of, Duration, Symbol, Spelled, Lexical, firstByte, endByte}
 use Rattle.tokens.specs.declared.scan.Quoted.{Quoted}
 use Rattle.tokens.specs.declared.scan.Quoted.the-variants.{Closed, Unterminated}
 use Rattle.tokens.specs.declared.scan.Run.{Run}
 use Rattle.tokens.specs.declared.scan.Run.the-variants.{Number, TooLarge}
-use Rattle.tokens.specs.declared.duration.Total.{Total}
 use Rattle.tokens.specs.declared.duration.Amount.{Amount}
 use Rattle.tokens.specs.declared.duration.Amount.the-variants.{Ms}
 use Rattle.tokens.specs.declared.lexer.Lexeme.{Lexeme}
 use Rattle.tokens.specs.declared.lexer.Lexeme.the-variants.{Token, Refused}
+use Rattle.tokens.proofs.AmountLaws.{amount-judged}
 use Rattle.tokens.proofs.LayoutReads.{Reads, more, one, then, Looked, looked, octets, ascii-octets, byte-long}
 use Rattle.tokens.proofs.LayoutScan.{class-passed, class-first, Ends, string-passed, alpha-ascii, all-of}
 use Rattle.tokens.proofs.LayoutScan.{Numeral, digits-of, Numbered, run-passed, number-passed}
@@ -219,28 +220,17 @@ decimal-fits {s} {p} {e} {whole} {frac} {d} x =
 
 -- ---- durations
 
--- a total in parts of which scale make a millisecond, as a number of milliseconds
-unfoldable Exactly : ℕ → ℕ → Amount → Type 0
-Exactly total scale (Ms n) = (n * scale ≡ total) × (n ≤ 4294967295)
-Exactly total scale (Amount.Refused number) = Lexical number
-
 -- an amount that is given is exact, and held in 32 bits
-whole-exact : (n scale : ℕ) → Exactly n scale (wholeMs n scale)
-unfolding wholeMs Exactly
-whole-exact n scale =
-    picked (Exactly n scale) (eqb (n % scale) 0)
-    (λ h. picked (Exactly n scale) (ltb (n / scale) 4294967296)
-    (λ k. (omega (arith, div-add-mod' n scale, eqb-true (n % scale) 0 h), omega (arith, ltb-true (n / scale) 4294967296 k)))
-    (λ k. Lexical.long))
-    (λ h. Lexical.fine)
+unfoldable Exactly : ℕ → ℕ → ℕ → ℕ → Amount → Type 0
+Exactly whole frac d unit (Ms ms) = Amounts whole frac d unit ms × (ms ≤ mostMs)
+Exactly whole frac d unit (Amount.Refused number) = Lexical number
 
-amount-exact : (whole frac d unit : ℕ) → Exactly (whole * unit * 10 ^ d + frac * unit) (10 ^ d) (amount whole frac d unit)
-unfolding amount below64 Exactly
-amount-exact whole frac d unit =
-    let n = whole * unit * 10 ^ d + frac * unit in
-    picked (Exactly n (10 ^ d)) (ltb 19 d) (λ h. Lexical.long)
-    (λ h. picked (λ (t : Total). Exactly n (10 ^ d) (totalMs (10 ^ d) t)) (ltb n (2 ^ 64)) (λ k. whole-exact n (10 ^ d))
-    (λ k. Lexical.long))
+exactly : {whole frac d unit : ℕ} {x : Amount} → Judged-amount whole frac d unit x → Exactly whole frac d unit x
+unfolding Exactly
+exactly (beyond h) = Lexical.long
+exactly (fine j n) = Lexical.fine
+exactly (long j a m) = Lexical.long
+exactly (exact j a m) = (a, m)
 
 -- letters that have milliseconds are a unit
 unit-of : (w : List ℕ) → (unitOf w ≡ 0 → ⊥) → Unit-of w (unitOf w)
@@ -255,25 +245,25 @@ unit-of w =
 
 -- a duration fits if it does for every unit and amount that the definition can come to
 module _ (s : List ℕ) (p u : Place) (whole frac d : ℕ) where
-  Amounts : Type 0
-  Amounts =
-      (e : Place) (us : List ℕ) (unit n : ℕ) → Reads s u e us → Unit-of us unit →
-      n * 10 ^ d ≡ whole * unit * 10 ^ d + frac * unit → n ≤ 4294967295 → Fits s p (spanning 5 n p e)
+  Any-fits : Type 0
+  Any-fits =
+      (e : Place) (us : List ℕ) (unit ms : ℕ) → Reads s u e us → Unit-of us unit → Amounts whole frac d unit ms → ms ≤ mostMs →
+      Fits s p (spanning DURATION ms p e)
 
-  amount-fits : {e : Place} {us : List ℕ} {unit : ℕ} (x : Amount) → Reads s u e us → Unit-of us unit →
-      Exactly (whole * unit * 10 ^ d + frac * unit) (10 ^ d) x → Amounts → Fits s p (amountTo p e x)
-  unfolding amountTo Exactly Amounts Fits
-  amount-fits {e} {us} {unit} (Ms n) r v x f = f e us unit n r v (x .0) (x .1)
+  amount-fits : {e : Place} {us : List ℕ} {unit : ℕ} (x : Amount) → Reads s u e us → Unit-of us unit → Exactly whole frac d unit x →
+      Any-fits → Fits s p (amountTo p e x)
+  unfolding amountTo Exactly Any-fits Fits
+  amount-fits {e} {us} {unit} (Ms ms) r v x f = f e us unit ms r v (x .0) (x .1)
   amount-fits (Amount.Refused number) r v x f = x
 
-  duration-by-fits : {e : Place} {us : List ℕ} (unit : ℕ) → Reads s u e us → ((unit ≡ 0 → ⊥) → Unit-of us unit) → Amounts →
+  duration-by-fits : {e : Place} {us : List ℕ} (unit : ℕ) → Reads s u e us → ((unit ≡ 0 → ⊥) → Unit-of us unit) → Any-fits →
       Fits s p (durationBy p unit whole frac d e)
   unfolding durationBy Fits
   duration-by-fits unit r v f =
       picked (Fits s p) (eqb unit 0) (λ h. Lexical.no-unit)
-      (λ h. amount-fits (amount whole frac d unit) r (v (eqb-false unit 0 h)) (amount-exact whole frac d unit) f)
+      (λ h. amount-fits (amount whole frac d unit) r (v (eqb-false unit 0 h)) (exactly (amount-judged whole frac d unit)) f)
 
-  duration-fits : Amounts → Fits s p (duration s p whole frac d u)
+  duration-fits : Any-fits → Fits s p (duration s p whole frac d u)
   unfolding duration
   duration-fits f =
       let r = class-passed isAlpha s u (chars s (u .at)) refl in
@@ -281,28 +271,22 @@ module _ (s : List ℕ) (p u : Place) (whole frac d : ℕ) where
       (duration-by-fits (unitOf (r .codes)) (r .reads) (unit-of (r .codes)) f)
 
 plain-duration : {s : List ℕ} {p q : Place} {whole : ℕ} → Numeral 1 s p q whole → Fits s p (duration s p whole 0 0 q)
-unfolding Amounts
+unfolding Any-fits
 plain-duration {s} {p} {q} {whole} h =
     duration-fits s p q whole 0 0
-    (λ e us unit n r v k m.
-    let i : n ≡ whole * unit = omega arith in
-    spans (then (h .reads) r) (Spelled.duration (digits-of h) v (rw (h .is) at i) m) refl)
+    (λ e us unit ms r v a m.
+    spans (then (h .reads) r) (Spelled.duration (Duration.whole (digits-of h) v (rw (h .is) at a) m)) refl)
 
-regroup : (n t w u f : ℕ) → n * t ≡ w * u * t + f * u → n * t ≡ (w * t + f) * u
-regroup n t w u f e = omega arith
-
-fraction-spelled : {s : List ℕ} {p e : Place} {w f d : ℕ} (x : Fraction s p e w f d) {us : List ℕ} {unit n : ℕ} → Unit-of us unit →
-    n * 10 ^ d ≡ w * unit * 10 ^ d + f * unit → n ≤ 4294967295 → Spelled (x .ws ++ (0x2E ∷ (x .fs ++ us))) 5 n
-fraction-spelled {w} {f} {d} x {us} {unit} {n} v k m =
-    let e = regroup n (10 ^ d) w unit f k in
-    let g : n * 10 ^ length (x .fs) ≡ (value (x .ws) * 10 ^ length (x .fs) + value (x .fs)) * unit = cc in
-    Spelled.decimal-duration (x .whole-digits) (x .frac-digits) v g m
+fraction-spelled : {s : List ℕ} {p e : Place} {w f d : ℕ} (x : Fraction s p e w f d) {us : List ℕ} {unit ms : ℕ} → Unit-of us unit →
+    Amounts w f d unit ms → ms ≤ mostMs → Spelled (x .ws ++ (0x2E ∷ (x .fs ++ us))) DURATION ms
+fraction-spelled x v a m =
+    Spelled.duration (Duration.decimal (x .whole-digits) (x .frac-digits) v (rw (x .whole-is, x .frac-is, x .places) at a) m)
 
 decimal-duration : {s : List ℕ} {p e : Place} {whole frac d : ℕ} → Fraction s p e whole frac d → Fits s p (duration s p whole frac d e)
-unfolding Amounts
+unfolding Any-fits
 decimal-duration {s} {p} {e} {whole} {frac} {d} x =
     duration-fits s p e whole frac d
-    (λ b us unit n r v k m. spans (rw append-assoc at (then (x .reads) r)) (fraction-spelled x v k m) refl)
+    (λ b us unit ms r v a m. spans (rw append-assoc at (then (x .reads) r)) (fraction-spelled x v a m) refl)
 
 -- ---- numbers
 

@@ -7,10 +7,13 @@ use borrow.Author.Tests.{eq-eqb, ne-eqb}
 use Rattle.text.specs.Choice.{pick}
 use Rattle.text.specs.declared.place.Place.{Place}
 use Rattle.text.specs.declared.place.Step.{Step}
+use Rattle.text.specs.declared.place.Checked.{Checked}
 use Rattle.text.proofs.Tests.{steps}
 use Rattle.tokens.specs.Token.{punct, string, timeBy, time, decimal, duration, fractionAt, fraction, point, numberAt, number}
+use Rattle.tokens.specs.Lex.{answerBy, wordsBy}
 use Rattle.tokens.specs.declared.scan.Quoted.{Quoted}
 use Rattle.tokens.specs.declared.scan.Run.{Run}
+use Rattle.tokens.specs.declared.lexer.Lexed.{Lexed}
 use Rattle.tokens.specs.declared.lexer.Lexeme.{Lexeme}
 use Rattle.tokens.specs.declared.lexer.Lexeme.the-variants.{Token}
 
@@ -68,3 +71,12 @@ duration-count s p whole frac d u h g = rw (← h) g
 
 -- closes what is left of a function of the lexer without a loop
 pub ruleset arms = (by-punct, by-string, by-time, by-fraction-at, by-fraction, by-point, by-number-at, by-number, kind-none, kind-some, time-count, decimal-count, duration-count, steps)
+
+-- question 4's answer, taken apart in the same way
+pub by-answer : (s : List ℕ) (x : Checked) {a v : Checked} {y : Lexed} → a ≡ x → a ≡ v → y ≡ answerBy s v → y ≡ answerBy s x
+by-answer s x asked was h = rw (sym asked ∙ was) h
+
+pub by-words : (s words : List ℕ) (x : Checked) {a v : Checked} {y : List ℕ} → a ≡ x → a ≡ v → y ≡ wordsBy s words v → y ≡ wordsBy s words x
+by-words s words x asked was h = rw (sym asked ∙ was) h
+
+pub ruleset asked = (by-answer, by-words, steps)

@@ -5,11 +5,16 @@ pub mod PhraseLaws
 pub mod ListWordLaws
 pub mod ScanLaws
 pub mod PowerLaws
+pub mod AmountLaws
 pub mod RecordLaws
 pub mod LexLaws
 pub mod LayoutReads
 pub mod LayoutScan
 pub mod LayoutToken
 pub mod LayoutLaws
+pub mod SpelledLaws
 pub mod BufferLaws
+pub mod PlacedLaws
+pub mod DurationLaws
+pub mod HoldsLaws
 pub mod Pairs

@@ -2,11 +2,11 @@
 use Prim.Native.Nat.{ℕ, _+_}
 use mathlib.Core.List.{List, []}
 use mathlib.Core.Bool.{Bool, true, false}
-use lib.Dec.{eqb}
+use lib.Dec.{ltb, eqb}
 use Rattle.text.specs.Choice.{pick, within}
 use Rattle.text.specs.Part.{sameBytes}
 use Rattle.tokens.specs.Kind.{WORD, STRING, INTEGER}
-use Rattle.tokens.specs.Record.{kindAt, numberAt, bytesAt}
+use Rattle.tokens.specs.Record.{capacity, kindAt, numberAt, bytesAt}
 use Rattle.tokens.specs.Result.{Res, ok, no, bind, refuse}
 use Rattle.tokens.specs.declared.cursor.Cursor.{Cursor}
 use Rattle.tokens.specs.declared.cursor.Taken.{Taken}
@@ -52,6 +52,10 @@ takeIn t low high i = bind (takeKind t INTEGER i) (λ n j. pick (within low high
 -- the cursor at an index
 abbrev pub at : ℕ → Cursor
 at i = record { index = i }
+
+-- "peek and advance": the index behind the token at an index; past the last token it stays
+unfoldable pub advanced : List ℕ → ℕ → ℕ
+advanced words i = pick (ltb i (capacity words)) (i + 1) i
 
 -- the answers of the code
 unfoldable pub toTaken : Res ℕ → Taken

@@ -11,9 +11,9 @@ use Rattle.text.specs.White.{isWhite}
 use Rattle.text.specs.Utf8.{Character, codes, chars}
 use Rattle.text.specs.Place.{start, walked}
 use Rattle.text.specs.declared.place.Place.{Place}
-use Rattle.tokens.specs.Kind.{WORD, STRING, INTEGER, TIME, DURATION, DECIMAL, OPEN, CLOSE, OPEN-BRACE, CLOSE-BRACE, COMMA, POINT, POINTS, ASSIGN, EQ, NE, GE, LE, GT, LT, PLUS, MINUS}
 use Rattle.text.specs.Ascii.{isDigit, isWordStart, isWordPart}
 use Rattle.tokens.specs.Kind.{WORD, STRING, INTEGER, TIME, DURATION, DECIMAL, OPEN, CLOSE, OPEN-BRACE, CLOSE-BRACE, COMMA, POINT, POINTS, ASSIGN, EQ, NE, GE, LE, GT, LT, PLUS, MINUS}
+use Rattle.tokens.specs.Amount.{Amounts, mostMs}
 use Rattle.tokens.specs.Lex.{Lexing, ended, refused, token, recordOf}
 
 -- every one of these characters is of the class
@@ -58,6 +58,13 @@ pub data Unit-of : List ℕ → ℕ → Type 0 where
   m : Unit-of (0x6D ∷ []) 60000
   h : Unit-of (0x68 ∷ []) 3600000
 
+-- these characters write a duration of so many milliseconds, exactly: the number, which may have a fraction, times the unit
+pub data Duration : List ℕ → ℕ → Type 0 where
+  whole : {ws us : List ℕ} {unit ms : ℕ} → Digits ws → Unit-of us unit → Amounts (value ws) 0 0 unit ms → ms ≤ mostMs →
+      Duration (ws ++ us) ms
+  decimal : {ws fs us : List ℕ} {unit ms : ℕ} → Digits ws → Digits fs → Unit-of us unit →
+      Amounts (value ws) (value fs) (length fs) unit ms → ms ≤ mostMs → Duration (ws ++ (0x2E ∷ (fs ++ us))) ms
+
 -- ( ) { } , . .. = == != >= <= > < + -
 pub data Symbol : List ℕ → ℕ → Type 0 where
   open-paren : Symbol (0x28 ∷ []) OPEN
@@ -85,12 +92,8 @@ pub data Spelled : List ℕ → ℕ → ℕ → Type 0 where
   -- hour × 60 + minute
   time : {hs ms : List ℕ} → Digits hs → length hs ≤ 2 → value hs ≤ 23 → Digits ms → length ms ≡ 2 → value ms ≤ 59 →
       Spelled (hs ++ (0x3A ∷ ms)) TIME (value hs * 60 + value ms)
-  -- milliseconds: exactly the written number times the unit
-  duration : {ws us : List ℕ} {unit n : ℕ} → Digits ws → Unit-of us unit → n ≡ value ws * unit → n ≤ 4294967295 →
-      Spelled (ws ++ us) DURATION n
-  decimal-duration : {ws fs us : List ℕ} {unit n : ℕ} → Digits ws → Digits fs → Unit-of us unit →
-      n * 10 ^ length fs ≡ (value ws * 10 ^ length fs + value fs) * unit → n ≤ 4294967295 →
-      Spelled (ws ++ (0x2E ∷ (fs ++ us))) DURATION n
+  -- its milliseconds
+  duration : {cs : List ℕ} {ms : ℕ} → Duration cs ms → Spelled cs DURATION ms
   -- times 10,000
   decimal : {ws fs : List ℕ} {n : ℕ} → Digits ws → Digits fs → length fs ≤ 4 →
       n * 10 ^ length fs ≡ (value ws * 10 ^ length fs + value fs) * 10000 → n ≤ 4294967295 →

@@ -1,14 +1,16 @@
--- What tokens a text gives, and how that ends (document 01, questions 10 to 19).
+-- What tokens a text gives, and how that ends (document 01, questions 1, 2, 4 and 10 to 19).
 use Prim.Native.Nat.{ℕ, zero, suc, _+_, _-_, _*_}
 use mathlib.Core.List.{List, [], _∷_}
 use lib.ListN.{length}
 use lib.Dec.{ltb}
 use Rattle.text.specs.Choice.{pick}
 use Rattle.text.specs.Utf8.{chars}
-use Rattle.text.specs.Place.{counted, start}
+use Rattle.text.specs.Place.{counted, start, checkOf}
 use Rattle.text.specs.declared.place.Place.{Place}
 use Rattle.text.specs.declared.place.Step.{Step}
 use Rattle.text.specs.declared.place.Step.the-variants.{Next, Stop}
+use Rattle.text.specs.declared.place.Checked.{Checked}
+use Rattle.text.specs.declared.place.Checked.the-variants.{WellFormed, IllFormed}
 use Rattle.tokens.specs.Scan.{trivia}
 use Rattle.tokens.specs.Token.{look, tokenAt}
 use Rattle.tokens.specs.Record.{recordSize, written}
@@ -84,13 +86,22 @@ mostBytes = 16384
 abbrev pub leastWords : ℕ
 leastWords = mostTokens * recordSize
 
--- the answer and the words at exit, with questions 1 and 2 first: text at most 16,384 bytes, at least 6,144 words
+-- "Text well-formed UTF-8 (RFC 3629)? 4": the answer and the words at exit once that is asked
+unfoldable pub answerBy : List ℕ → Checked → Lexed
+answerBy s WellFormed = answerFrom 0 (lexText s)
+answerBy s (IllFormed line column) = Refused 4 line column
+
+unfoldable pub wordsBy : List ℕ → List ℕ → Checked → List ℕ
+wordsBy s words WellFormed = writtenFrom 0 words (lexText s)
+wordsBy s words (IllFormed line column) = words
+
+-- "A text gives tokens if it passes 1, 4 and, throughout, 10 to 18": the answer and the words at exit. Question 2 is asked behind 1.
 unfoldable pub lexAnswer : List ℕ → List ℕ → Lexed
 lexAnswer s words =
     pick (ltb mostBytes (length s)) (Refused 1 0 0)
-    (pick (ltb (length words) leastWords) (Refused 2 0 0) (answerFrom 0 (lexText s)))
+    (pick (ltb (length words) leastWords) (Refused 2 0 0) (answerBy s (checkOf s)))
 
 unfoldable pub lexWords : List ℕ → List ℕ → List ℕ
 lexWords s words =
     pick (ltb mostBytes (length s)) words
-    (pick (ltb (length words) leastWords) words (writtenFrom 0 words (lexText s)))
+    (pick (ltb (length words) leastWords) words (wordsBy s words (checkOf s)))

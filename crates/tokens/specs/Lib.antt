@@ -1,6 +1,7 @@
 pub mod Kind
 pub mod Scan
 pub mod Duration
+pub mod Amount
 pub mod Token
 pub mod Record
 pub mod Lex
@@ -10,3 +11,5 @@ pub mod Cursor
 pub mod Phrase
 pub mod Grammar
 pub mod Layout
+pub mod Placed
+pub mod Buffer

@@ -1,5 +1,5 @@
 -- Token records in the lent words: six words each, kind, number, start, length, line, column (document 01, "Tokens and places").
--- Only this file and src/record.rt know the layout.
+-- Among the definitions only this file knows their order, in the code src/record.rt, and for callers include/tergyosul.h has it.
 use Prim.Native.Nat.{ℕ, _+_, _-_, _*_, _/_}
 use mathlib.Core.List.{List, [], _∷_}
 use lib.ListN.{length, getD}

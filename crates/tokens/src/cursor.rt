@@ -5,7 +5,7 @@ use crate::record;
 ghost use mathlib.Core.Path.{_≡_};
 ghost use Prim.Native.Nat.{_+_};
 ghost use Rattle.tokens.specs.Record.{kindAt};
-ghost use Rattle.tokens.specs.Cursor.{tokens, isWord, isKind, takeKind, takeWord, takeIn, at, toTaken, accepted};
+ghost use Rattle.tokens.specs.Cursor.{tokens, isWord, isKind, takeKind, takeWord, takeIn, at, advanced, toTaken, accepted};
 
 pub struct Cursor {
     pub index: usize,
@@ -88,6 +88,17 @@ impl Cursor {
         record::kind(words, i + 1)
     }
 
+    // The cursor behind the token in hand; at the end it stays.
+    pub fn advance(self, words: &[u32]) -> Cursor
+        ensures { λ r. ⌜ r ≡ at (advanced (now (words .entry)) (self .index)) ⌝ }
+    {
+        let i = self.index;
+        if record::count(words) <= i {
+            return self;
+        }
+        Cursor { index: i + 1 }
+    }
+
     // Is the token in hand of a kind?
     pub fn peek_is(self, text: &[u8], words: &[u32], kind: u32) -> bool
         ensures { λ r. ⌜ r ≡ isKind (tokens (now (text .entry)) (now (words .entry))) kind (self .index) ⌝ }
@@ -115,8 +126,7 @@ impl Cursor {
         ensures { λ r. ⌜ r ≡ accepted (isKind (tokens (now (text .entry)) (now (words .entry))) kind (self .index)) (self .index) ⌝ }
     {
         if self.peek_is(text, words, kind) {
-            let i = self.index;
-            return Accepted::Yes(Cursor { index: i + 1 });
+            return Accepted::Yes(self.advance(words));
         }
         Accepted::Left
     }
@@ -125,8 +135,7 @@ impl Cursor {
         ensures { λ r. ⌜ r ≡ accepted (isWord (tokens (now (text .entry)) (now (words .entry))) (now (word .entry)) (self .index)) (self .index) ⌝ }
     {
         if self.peek_kw(text, words, word) {
-            let i = self.index;
-            return Accepted::Yes(Cursor { index: i + 1 });
+            return Accepted::Yes(self.advance(words));
         }
         Accepted::Left
     }
@@ -137,7 +146,7 @@ impl Cursor {
     {
         let i = self.index;
         if self.peek_is(text, words, kind) {
-            return Taken::Got(record::number(words, i), Cursor { index: i + 1 });
+            return Taken::Got(record::number(words, i), self.advance(words));
         }
         Taken::No(refuse(20, i))
     }
@@ -148,7 +157,7 @@ impl Cursor {
     {
         let i = self.index;
         if self.peek_kw(text, words, word) {
-            return Taken::Got(0, Cursor { index: i + 1 });
+            return Taken::Got(0, self.advance(words));
         }
         Taken::No(refuse(20, i))
     }

@@ -1,4 +1,4 @@
-// The lexer, ported from lexer.rs: the tokens of a text, or the first refusal among questions 10 to 19.
+// The lexer, ported from lexer.rs: the tokens of a text, or the first refusal among questions 1, 2, 4 and 10 to 19.
 use crate::duration;
 use crate::duration::Amount;
 use crate::kind;
@@ -9,6 +9,7 @@ use crate::scan::Quoted;
 use crate::scan::Run;
 use text::ascii;
 use text::place;
+use text::place::Checked;
 use text::place::Place;
 use text::place::Step;
 ghost use mathlib.Core.Path.{_≡_};
@@ -17,6 +18,7 @@ ghost use Rattle.text.specs.Utf8.{chars};
 ghost use Rattle.text.specs.Place.{counted, start};
 ghost use Rattle.tokens.specs.Scan.{quoted, digits};
 ghost use Rattle.tokens.specs.Token.{look, singleKind, pairKind, single, punct, string, digitsIn, timeBy, time, decimal, durationBy, duration, fractionAt, fraction, point, numberAt, number, word, spanning, tokenAt};
+ghost use Rattle.tokens.specs.Buffer.{Holds, lexNumber, frontOf};
 ghost use Rattle.tokens.specs.Lex.{recordOf, lexFrom, lexText, answerFrom, writtenFrom, lexAnswer, lexWords};
 
 // The most tokens and bytes that a text may have, and the fewest words that are lent: room for the most tokens.
@@ -427,9 +429,11 @@ fn lex_all(s: &[u8], words: &mut [u32]) -> Lexed
     }
 }
 
-// The tokens of a text, as records in the lent words. A refusal leaves the records before it; no other word changes.
+// The tokens of a text, as records in the lent words. Refusals 1, 2 and 4 leave the words as they are, another one leaves the records
+// before it; no other word changes.
 pub fn lex(s: &[u8], words: &mut [u32]) -> Lexed
     ensures { λ r. ⌜ (r ≡ lexAnswer (now (s .entry)) (now (words .entry))) × (now (words .exit) ≡ lexWords (now (s .entry)) (now (words .entry))) ⌝ }
+    ensures buffer { λ r. ⌜ Holds (frontOf (lexNumber r) (now (s .entry))) (now (words .entry)) (now (words .exit)) ⌝ }
 {
     if MOST_BYTES < s.len() {
         return Lexed::Refused {
@@ -445,5 +449,17 @@ pub fn lex(s: &[u8], words: &mut [u32]) -> Lexed
             column: 0,
         };
     }
-    lex_all(s, words)
+    let checked = place::check_utf8(s);
+    match checked {
+        Checked::IllFormed { line, column } => {
+            return Lexed::Refused {
+                number: 4,
+                line,
+                column,
+            };
+        }
+        Checked::WellFormed => {
+            return lex_all(s, words);
+        }
+    }
 }

@@ -1,4 +1,5 @@
-// Token records: six words each in the lent words. Only this file and specs/Record.antt know the layout.
+// Token records: six words each in the lent words. In the code only this file knows their order; others ask by its functions and go
+// from record to record by RECORD_SIZE. specs/Record.antt has the same order, and include/tergyosul.h has it for callers.
 ghost use mathlib.Core.Path.{_≡_};
 ghost use Prim.Native.Nat.{_<_};
 ghost use Rattle.tokens.specs.Record.{recordSize, capacity, written, wordAt, kindAt, numberAt, startAt, lengthAt, lineAt, columnAt, bytesAt};

@@ -233,10 +233,10 @@ pub fn string_end(s: &[u8], from: Place) -> Quoted
                     line,
                     column: count_up(column),
                 };
-                return Quoted::Closed { end: at, next };
+                break Quoted::Closed { end: at, next };
             }
             if b == 0xA {
-                return Quoted::Unterminated { end: at };
+                break Quoted::Unterminated { end: at };
             }
             at = at + 1;
             column = count_up(column);
@@ -248,7 +248,7 @@ pub fn string_end(s: &[u8], from: Place) -> Quoted
                     column = place.column;
                 }
                 Step::Stop => {
-                    return Quoted::Unterminated { end: at };
+                    break Quoted::Unterminated { end: at };
                 }
             }
         }

@@ -25,7 +25,6 @@ pub struct Agreed {
     pub lexing: Lexing,
     /// Whether the supplied Rust was compared too.
     pub in_domain: bool,
-    pub ill_formed: bool,
 }
 
 /// What a lexer leaves behind on a case, if every word is untouched before.
@@ -46,21 +45,19 @@ pub fn wanted(lexing: &Lexing, words: usize) -> Left {
 }
 
 /// Compares a lexer with the second reader, and the supplied Rust with that one in the domain; or says how they differ.
-/// Behind the first place where no character begins nothing is read, so what stands before it is compared.
 pub fn agree(lexer: Lexer, case: &Case) -> Result<Agreed, String> {
     let (lexing, in_domain) = second::lexing(&case.text, case.words);
     let (found, wanted) = (left(lexer, case), wanted(&lexing, case.words));
     if found != wanted {
         return Err(format!("the second reader: {}\nthe proved lexer:  {}", shown(&wanted), shown(&found)));
     }
-    let characters = case.text.utf8_chunks().next().map_or("", |chunk| chunk.valid());
     if in_domain {
-        let supplied = panic::catch_unwind(|| supplied::lexing(characters)).ok().flatten();
+        let supplied = panic::catch_unwind(|| supplied::lexing(std::str::from_utf8(&case.text).ok()?)).ok().flatten();
         if supplied.as_ref() != Some(&lexing) {
             return Err(format!("the supplied Rust: {supplied:?}\nthe other two:     {lexing:?}"));
         }
     }
-    Ok(Agreed { lexing, in_domain, ill_formed: characters.len() < case.text.len() })
+    Ok(Agreed { lexing, in_domain })
 }
 
 /// The words without the untouched ones at the end.

@@ -53,7 +53,7 @@ pub fn lex(text: &[u8], words: &mut [u32]) -> Answer {
     Answer { number, line, column, count }
 }
 
-/// The call itself. An answer of fewer than four words is left as it is; no word behind the fourth is written.
+/// The call itself. With an answer of fewer than four words nothing is lexed or written; no word behind the fourth is written.
 pub fn lex_into(text: &[u8], words: &mut [u32], answer: &mut [u32]) -> u32 {
     // SAFETY: each pointer and length is a slice that is borrowed for the call, and the two mutable ones overlap nothing.
     unsafe {
@@ -68,8 +68,8 @@ pub fn lex_into(text: &[u8], words: &mut [u32], answer: &mut [u32]) -> u32 {
     }
 }
 
-/// The whole call: reads a rule text with a name sheet. The layout of the answer is include/tergyosul.h's; one of fewer than
-/// 108 words is left as it is.
+/// The whole call: reads a rule text with a name sheet. The layout of the answer is include/tergyosul.h's; with one of fewer
+/// than 108 words nothing is read or written.
 pub fn read(text: &[u8], sheet: &[u8], words: &mut [u32], answer: &mut [u32]) -> u32 {
     // SAFETY: each pointer and length is a slice that is borrowed for the call, and the two mutable ones overlap nothing.
     unsafe {

@@ -26,17 +26,18 @@ fn the_first_questions_leave_the_words_alone() {
     assert_eq!(lex(&[b' '; 16_385], &mut words), Answer { number: 1, line: 0, column: 0, count: 0 });
     assert_eq!(lex(b"a", &mut words[1..]), Answer { number: 2, line: 0, column: 0, count: 0 });
     assert_eq!(lex(b"a", &mut []), Answer { number: 2, line: 0, column: 0, count: 0 });
+    assert_eq!(lex(b"a \xFF", &mut words), Answer { number: 4, line: 1, column: 3, count: 0 });
     assert!(words.iter().all(|&word| word == UNTOUCHED));
     assert_eq!(lex(b"", &mut words), Answer { number: 0, line: 1, column: 1, count: 0 });
 }
 
 #[test]
-fn an_answer_without_room_is_left_as_it_is() {
+fn without_room_for_the_answer_nothing_is_written() {
     let mut words = vec![UNTOUCHED; 6_144];
     for room in 0..4 {
         let mut answer = vec![UNTOUCHED; room];
-        assert_eq!(lex_into(b"@", &mut words, &mut answer), 10);
-        assert!(answer.iter().all(|&word| word == UNTOUCHED));
+        assert_eq!(lex_into(b"a @", &mut words, &mut answer), u32::MAX);
+        assert!(answer.iter().chain(&words).all(|&word| word == UNTOUCHED));
     }
     let mut answer = [UNTOUCHED; 5];
     assert_eq!(lex_into(b" @", &mut words, &mut answer), 10);
@@ -86,9 +87,9 @@ fn faults_are_found_and_made_small() {
 }
 
 #[test]
-fn ill_formed_texts_are_compared_up_to_the_fault() {
+fn ill_formed_texts_are_refused() {
     for text in [&b"a \xFF b"[..], b"\"\xC3", b"5\xE2\x80", b"# \xF4\x90\x80\x80", b"\x80"] {
-        assert!(agree(&lex_into, &case(text)).unwrap().ill_formed);
+        assert_eq!(agree(&lex_into, &case(text)).unwrap().lexing.number, 4);
     }
 }
 
@@ -100,7 +101,7 @@ fn what_never_came_up_is_named() {
     let zeros = coverage.zeros();
     assert!(!zeros.contains(&"kind 1".to_string()) && !zeros.contains(&"refusal 10".to_string()));
     assert!(zeros.contains(&"kind 22".to_string()) && zeros.contains(&"refusal 19".to_string()));
-    assert_eq!(zeros.len(), 22 - 2 + 11 - 1);
+    assert_eq!(zeros.len(), 22 - 2 + 12 - 1);
 }
 
 #[test]

@@ -46,14 +46,17 @@ pub fn in_domain(case: &Case) -> bool {
     }
 }
 
-/// Lexing alone, of the characters before the first place where none begins: questions 1, 2 and 10 to 19. With it,
-/// whether the supplied Rust must give the same: not for 1, 2 and 19, nor for a duration of 20 or more fractional digits.
+/// Lexing alone: questions 1, 2, 4 and 10 to 19. With it, whether the supplied Rust must give the same: not for 1, 2, 4 and
+/// 19, nor for a duration of 20 or more fractional digits.
 pub fn lexing(text: &[u8], words: usize) -> (Lexing, bool) {
     if let Err(refusal) = room(text, words) {
         return (lexing_with(Vec::new(), refusal.number, refusal.place), false);
     }
-    let characters = text.utf8_chunks().next().map_or("", |chunk| chunk.valid());
-    let lexed = lexer::lex(characters);
+    let text = match well_formed(text) {
+        Ok(text) => text,
+        Err(place) => return (lexing_with(Vec::new(), 4, place), false),
+    };
+    let lexed = lexer::lex(text);
     let records = lexed.tokens.iter().map(buffer::record).collect();
     match lexed.end {
         Ok(end) => (lexing_with(records, 0, end), true),

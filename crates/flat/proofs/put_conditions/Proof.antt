@@ -16,7 +16,7 @@ abbrev μ-loop : tie.MeasureT-loop
 μ-loop out₀ list i₀ out i = 4 - i
 
 pub put-conditions-spec : {M : Type 1} → statement M
-unfolding listRows firstTrigger firstCondition withConditions
+unfolding listRows firstTrigger firstCondition conditionRow withConditions
 put-conditions-spec =
     tie.close
     (tie.spec
@@ -24,7 +24,8 @@ put-conditions-spec =
     μ-loop
     (λ c. (omega arith, refl, refl))
     (λ c. search needs)
-    (λ c κs. search needs)
+    (λ c. search needs)
+    (λ c. search needs)
     (λ c κs. search needs)
     (λ c. search needs)
     (λ c. search needs)

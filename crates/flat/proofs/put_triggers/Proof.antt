@@ -16,7 +16,7 @@ abbrev μ-loop : tie.MeasureT-loop
 μ-loop out₀ list i₀ out i = 4 - i
 
 pub put-triggers-spec : {M : Type 1} → statement M
-unfolding listRows firstTrigger withTriggers
+unfolding listRows firstTrigger triggerRow withTriggers
 put-triggers-spec =
     tie.close
     (tie.spec
@@ -24,7 +24,8 @@ put-triggers-spec =
     μ-loop
     (λ c. (omega arith, refl, refl))
     (λ c. search needs)
-    (λ c κs. search needs)
+    (λ c. search needs)
+    (λ c. search needs)
     (λ c κs. search needs)
     (λ c. search needs)
     (λ c. search needs)

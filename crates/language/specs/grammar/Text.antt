@@ -32,7 +32,8 @@ pub data If-section (t : ℕ → Tok) (view : View) (range : ℕ → Name) : ℕ
       Repeated t (ascii "and") (Condition-of t view range) k ys l → length ys ≤ mostAnds → If-section t view range i (y ∷ ys) l
 
 -- "A reading of a text's tokens with a sheet is a list of triggers and one of conditions, the latter empty without `if`: one record for each,
--- in order, by forms that use up all the tokens": behind the last token the kind is 0
+-- in order, by forms below that use up all the tokens, with 22 to 39 met where they apply." Each form's rule has the questions that apply to it;
+-- behind the last token the kind is 0.
 pub data Reading-with (t : ℕ → Tok) (view : View) (range : ℕ → Name) : List Trigger → List Condition → Type 0 where
   reading : {i j : ℕ} {xs : List Trigger} {ys : List Condition} → When-section t view range 0 xs i → If-section t view range i ys j →
       t j .kind ≡ 0 → Reading-with t view range xs ys

@@ -4,11 +4,12 @@ use lib.ListN.{length-set}
 use borrow.Author.Tests.{le-ltb}
 use Rattle.text.proofs.Tests.{steps}
 use Rattle.tergyosul.specs.Lexing.{fourFirst}
+use Rattle.tergyosul.specs.Room.{byRoom}
 use Rattle.tergyosul.proofs.put_four.Statement.{statement}
 use Rattle.tergyosul.proofs.put_four.Tie as tie
 
 pub put-four-spec : {M : Type 1} → statement M
-unfolding fourFirst
+unfolding fourFirst byRoom
 put-four-spec =
     tie.close
     (tie.spec

@@ -38,9 +38,9 @@ use denote.Triple.Walked.{says, Stays, stay-none-slice, walkOf, goes-none-slice,
 use denote.Exit.{yes}
 use denote.Triple.Clauses.{ensured, lasts}
 use Rattle.tokens.specs.Record.{kindAt}
-use Rattle.token_reader.specs.Reader.{behind}
+use Rattle.tokens.specs.Cursor.{advanced}
+use Rattle.tokens.proofs.CursorLaws.{kind-advanced}
 use Rattle.token_reader.specs.declared.TokenReader.{TokenReader}
-use Rattle.token_reader.proofs.Step.{kind-behind}
 use Rattle.token_reader.proofs.TokenReader as T
 use Rattle.token_reader.proofs.TokenReader.Laws as T′
 use Rattle.token_reader.proofs.new as new
@@ -72,7 +72,7 @@ abbrev AtFirst : RefT (List ℕ) → TokenReader → Type 0
 AtFirst s r = (r .words ≡ s) × (r .index ≡ 0)
 
 abbrev Moved : TokenReader → TokenReader → Type 0
-Moved r t = (t .words ≡ r .words) × (t .index ≡ behind (now (r .words)) (r .index))
+Moved r t = (t .words ≡ r .words) × (t .index ≡ advanced (now (r .words)) (r .index))
 
 abbrev Kind : TokenReader → ℕ → Type 0
 Kind t k = k ≡ kindAt (now (t .words)) (t .index)
@@ -81,7 +81,7 @@ Kind t k = k ≡ kindAt (now (t .words)) (t .index)
 chained : (s : RefT (List ℕ)) (r t : TokenReader) (k : ℕ) → AtFirst s r → Moved r t → Kind t k → k ≡ kindAt (now s) 1
 chained s r t k e f g =
     g ∙ (ap (λ (x : RefT (List ℕ)). kindAt (now x) (t .index)) (f .0 ∙ e .0) ∙
-    (ap (kindAt (now s)) (f .1 ∙ (ap (λ (x : RefT (List ℕ)). behind (now x) (r .index)) (e .0) ∙ ap (behind (now s)) (e .1))) ∙ kind-behind (now s) 0))
+    (ap (kindAt (now s)) (f .1 ∙ (ap (λ (x : RefT (List ℕ)). advanced (now x) (r .index)) (e .0) ∙ ap (advanced (now s)) (e .1))) ∙ kind-advanced (now s) 0))
 
 module _ {M : Type 1} (𝓤 : URA M) (H : Heap 𝓤) (A : Atoms 𝓤) (mem : Memory → SProp 𝓤) (run : Routine → Fun 𝓤) where
   -- the contracts that the proof cites

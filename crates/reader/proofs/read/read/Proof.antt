@@ -1,5 +1,5 @@
 use borrow.Author.Needs.{needs}
-use Rattle.reader.proofs.ReadLaws.{long-answer, long-buffer, small-answer, small-buffer, asked-answer, asked-buffer, exactly}
+use Rattle.reader.proofs.ReadLaws.{long-answer, long-buffer, small-answer, small-buffer, asked-answer, asked-buffer, promised}
 use Rattle.reader.proofs.read.read.Statement.{statement}
 use Rattle.reader.proofs.read.read.Tie as tie
 
@@ -8,9 +8,9 @@ read-spec =
     tie.close
     (tie.spec
     (λ c κs. search needs)
-    (λ c. ((search long-answer, search long-buffer), search (exactly, long-answer)))
+    (λ c. promised _ _ _ (search long-answer) (search long-buffer))
     (λ c κs. search needs)
-    (λ c. ((search small-answer, search small-buffer), search (exactly, small-answer)))
+    (λ c. promised _ _ _ (search small-answer) (search small-buffer))
     (λ c κs. search needs)
     (λ c. search needs)
-    (λ c. ((search asked-answer, search asked-buffer), search (exactly, asked-answer))))
+    (λ c. promised _ _ _ (search asked-answer) (search asked-buffer)))

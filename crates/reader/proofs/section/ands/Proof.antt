@@ -4,7 +4,7 @@ use Rattle.tokens.specs.Cursor.{tokens}
 use Rattle.tokens.specs.Record.{capacity}
 use Rattle.sheet.specs.View.{viewOf}
 use Rattle.language.specs.Range.{rangeOf}
-use Rattle.reader.proofs.SectionLaws.{And-loop, ands-begin, ands-end, ands-full, ands-stop, ands-on, ands-falls}
+use Rattle.reader.proofs.SectionLaws.{And-loop, ands-begin, ands-end, ands-full, ands-stop, ands-put}
 use Rattle.reader.proofs.section.ands.Statement.{statement}
 use Rattle.reader.proofs.section.ands.Tie as tie
 
@@ -39,6 +39,8 @@ ands-spec =
     (λ c κs. search needs)
     (λ c. search ands-stop fits 20000)
     (λ c. search needs)
-    (λ c κs. search needs)
-    (λ c. search ands-falls)
-    (λ c. search ands-on))
+    (λ c. search needs)
+    (λ c. search needs)
+    (λ c. search needs)
+    (λ c. search needs)
+    (λ c. search ands-put))

@@ -7,7 +7,7 @@ use Rattle.sheet.specs.View.{viewOf}
 use Rattle.language.specs.Range.{rangeOf}
 use Rattle.language.specs.Trigger.{triggerAt}
 use Rattle.language.specs.Section.{repeated}
-use Rattle.reader.proofs.SectionLaws.{When-going, whens-begin, whens-end, whens-full, whens-stop, whens-on, whens-falls}
+use Rattle.reader.proofs.SectionLaws.{When-going, whens-begin, whens-end, whens-full, whens-stop, whens-put}
 use Rattle.reader.proofs.section.whens.Statement.{statement}
 use Rattle.reader.proofs.section.whens.Tie as tie
 
@@ -43,6 +43,8 @@ whens-spec =
     (λ c κs. search needs)
     (λ c. search whens-stop)
     (λ c. search needs)
-    (λ c κs. search needs)
-    (λ c. search whens-falls)
-    (λ c. search whens-on))
+    (λ c. search needs)
+    (λ c. search needs)
+    (λ c. search needs)
+    (λ c. search needs)
+    (λ c. search whens-put))

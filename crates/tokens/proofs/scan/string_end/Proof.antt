@@ -27,10 +27,6 @@ string-end-spec =
     (λ c. search scans)
     (λ c κs. search needs)
     (λ c. search scans)
-    (λ c.
-    quoted-end _ _ _ _ (c .before .before .before .octet .ensures) (c .before .before .before .before .loop .inv) (c .before .before .if1 .taken)
-    (c .if3 .taken))
-    (λ c. search scans)
     (λ c κs. search needs)
     (λ c. search scans)
     (λ c. search scans)
@@ -41,4 +37,8 @@ string-end-spec =
     at-next _ _ (c .before .before .before .decoded .ensures) (c .before .before .before .before .before .before .loop .inv) (c .before .place .given .1)
     (quoted-wide _ _ _ _ (c .before .before .before .before .before .octet .ensures) (c .before .before .before .before .if1 .left)))
     (λ c. search needs)
+    (λ c. search scans)
+    (λ c.
+    quoted-end _ _ _ _ (c .before .before .before .octet .ensures) (c .before .before .before .before .loop .inv) (c .before .before .if1 .taken)
+    (c .if3 .taken))
     (λ c. at-stop _ _ (c .before .before .decoded .ensures) (c .before .before .before .before .before .loop .inv) (c .enum-told .given .1) (λ t. quoted-stop t)))

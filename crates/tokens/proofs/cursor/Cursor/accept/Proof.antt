@@ -1,7 +1,6 @@
 use borrow.Author.Needs.{needs}
-use native.Mathlib.Omega.{arith}
 use Rattle.tokens.proofs.Chain.{chain}
-use Rattle.tokens.proofs.CursorLaws.{kind-inside}
+use Rattle.tokens.proofs.CursorLaws.{accepted-kind}
 use Rattle.tokens.proofs.cursor.Cursor.accept.Statement.{statement}
 use Rattle.tokens.proofs.cursor.Cursor.accept.Tie as tie
 
@@ -10,6 +9,6 @@ accept-spec =
     tie.close
     (tie.spec
     (λ c κs. search needs)
-    (λ c. omega (arith, kind-inside _ _ _ _ (c .before .peek-is .ensures) (c .if1 .taken)))
-    (λ c. search chain)
+    (λ c κs. search needs)
+    (λ c. search accepted-kind)
     (λ c. search chain))

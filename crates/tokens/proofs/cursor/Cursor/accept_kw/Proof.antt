@@ -1,7 +1,6 @@
 use borrow.Author.Needs.{needs}
-use native.Mathlib.Omega.{arith}
 use Rattle.tokens.proofs.Chain.{chain}
-use Rattle.tokens.proofs.CursorLaws.{word-inside}
+use Rattle.tokens.proofs.CursorLaws.{accepted-word}
 use Rattle.tokens.proofs.cursor.Cursor.accept_kw.Statement.{statement}
 use Rattle.tokens.proofs.cursor.Cursor.accept_kw.Tie as tie
 
@@ -10,6 +9,6 @@ accept-kw-spec =
     tie.close
     (tie.spec
     (λ c κs. search needs)
-    (λ c. omega (arith, word-inside _ _ _ _ (c .before .peek-kw .ensures) (c .if1 .taken)))
-    (λ c. search chain)
+    (λ c κs. search needs)
+    (λ c. search accepted-word)
     (λ c. search chain))

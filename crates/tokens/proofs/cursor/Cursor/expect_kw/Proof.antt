@@ -1,8 +1,7 @@
 use borrow.Author.Needs.{needs}
 use Rattle.tokens.specs.Cursor.{takeWord}
-use native.Mathlib.Omega.{arith}
 use Rattle.tokens.proofs.Chain.{chain}
-use Rattle.tokens.proofs.CursorLaws.{word-inside}
+use Rattle.tokens.proofs.CursorLaws.{taken-word}
 use Rattle.tokens.proofs.cursor.Cursor.expect_kw.Statement.{statement}
 use Rattle.tokens.proofs.cursor.Cursor.expect_kw.Tie as tie
 
@@ -12,7 +11,7 @@ expect-kw-spec =
     tie.close
     (tie.spec
     (λ c κs. search needs)
-    (λ c. omega (arith, word-inside _ _ _ _ (c .before .peek-kw .ensures) (c .if1 .taken)))
-    (λ c. search chain depth 8)
+    (λ c κs. search needs)
+    (λ c. search taken-word)
     (λ c κs. search needs)
     (λ c. search chain depth 8))

@@ -1,0 +1,62 @@
+/*
+ * A test: calls with an answer that is too short say so, and read and write nothing. The exit status is 0 if that is so.
+ */
+#include <stdio.h>
+
+#include "tergyosul.h"
+
+#define BEFORE 7u
+
+static uint32_t words[TERGYOSUL_TOKEN_WORDS];
+static uint32_t answer[TERGYOSUL_ANSWER_WORDS];
+
+static void fill(uint32_t *array, size_t length)
+{
+    size_t i;
+
+    for (i = 0; i < length; i++) {
+        array[i] = BEFORE;
+    }
+}
+
+static int is_filled(const uint32_t *array, size_t length)
+{
+    size_t i;
+
+    for (i = 0; i < length; i++) {
+        if (array[i] != BEFORE) {
+            return 0;
+        }
+    }
+    return 1;
+}
+
+int main(void)
+{
+    static const uint8_t text[] = "when http trigger";
+    static const uint8_t sheet[] = "primary,0";
+    const size_t text_length = sizeof text - 1, sheet_length = sizeof sheet - 1;
+    uint32_t read, lexed;
+
+    fill(words, TERGYOSUL_TOKEN_WORDS);
+    fill(answer, TERGYOSUL_ANSWER_WORDS);
+    read = tergyosul_read(text, text_length, sheet, sheet_length, words, TERGYOSUL_TOKEN_WORDS, answer,
+                          TERGYOSUL_ANSWER_WORDS - 1);
+    lexed = tergyosul_lex(text, text_length, words, TERGYOSUL_TOKEN_WORDS, answer, TERGYOSUL_LEX_WORDS - 1);
+    if (read != TERGYOSUL_NO_ROOM || lexed != TERGYOSUL_NO_ROOM) {
+        fprintf(stderr, "an answer without room is not told\n");
+        return 1;
+    }
+    if (!is_filled(words, TERGYOSUL_TOKEN_WORDS) || !is_filled(answer, TERGYOSUL_ANSWER_WORDS)) {
+        fprintf(stderr, "something was written without room for the answer\n");
+        return 1;
+    }
+    read = tergyosul_read(text, text_length, sheet, sheet_length, words, TERGYOSUL_TOKEN_WORDS, answer,
+                          TERGYOSUL_ANSWER_WORDS);
+    lexed = tergyosul_lex(text, text_length, words, TERGYOSUL_TOKEN_WORDS, answer, TERGYOSUL_LEX_WORDS);
+    if (read != 0 || lexed != 0 || answer[3] != 3 || answer[TERGYOSUL_ROW] != TERGYOSUL_HTTP_TRIGGER) {
+        fprintf(stderr, "an answer that just has room is not given\n");
+        return 1;
+    }
+    return 0;
+}

@@ -1,0 +1,50 @@
+-- A whole rule is answered alike with any count of arguments that is at least the number of its tokens: no ARGS runs out of it.
+use Prim.Native.Nat.{ℕ, _≤_}
+use native.Mathlib.Omega.{arith}
+use mathlib.Core.Path.{_≡_, fun-ext}
+use mathlib.Core.List.{List}
+use Rattle.tokens.specs.Record.{capacity}
+use Rattle.tokens.specs.Cursor.{Tok, tokens}
+use Rattle.sheet.specs.View.{View}
+use Rattle.references.specs.Args.{inputSelector, inputRef}
+use Rattle.references.proofs.ArgComplete.{no-token}
+use Rattle.references.proofs.FuelLaws.{selector-fuel, input-fuel}
+use Rattle.model.specs.declared.Name.{Name}
+use Rattle.language.specs.Expr.{inputReading, readingBy, readingAt, readValue, valueAt}
+use Rattle.language.specs.Trigger.{inputTrigger, triggerBy, triggerAt}
+use Rattle.language.specs.Condition.{lampCompared, lampPoint, lampState, lampCondition, lightThan, inputState, inputCondition, operandAt, varCompared, varCondition, conditionBy, conditionAt}
+use Rattle.language.specs.Section.{whenSection, ifSection, ruleAt}
+use Rattle.language.specs.Range.{rangeOf}
+use Rattle.language.specs.Read.{ruleOf}
+use Rattle.language.proofs.WordLaws.{End}
+
+-- no token stands at n or behind it, and both counts are at least n
+module _ (t : ℕ → Tok) (view : View) (range : ℕ → Name) {n m k : ℕ} (end : End t n) (p : n ≤ m) (q : n ≤ k) where
+  selector : inputSelector t view m ≡ inputSelector t view k
+  selector = fun-ext (λ i. selector-fuel t view end p q i)
+
+  input : inputRef t view m ≡ inputRef t view k
+  input = fun-ext (λ i. input-fuel t view end p q i)
+
+  value : valueAt t view range m ≡ valueAt t view range k
+  unfolding valueAt readValue readingAt readingBy inputReading
+  value = fun-ext (λ i. rw (input))
+
+  trigger : triggerAt t view range m ≡ triggerAt t view range k
+  unfolding triggerAt triggerBy inputTrigger
+  trigger = fun-ext (λ i. rw (selector))
+
+  condition : conditionAt t view range m ≡ conditionAt t view range k
+  unfolding conditionAt conditionBy varCondition varCompared operandAt inputCondition inputState lightThan lampCondition lampState lampPoint lampCompared
+  condition = fun-ext (λ i. rw (input, value))
+
+  -- a whole rule
+  pub rule-fuel : ruleAt t view range m ≡ ruleAt t view range k
+  unfolding ruleAt whenSection ifSection
+  rule-fuel = rw (trigger, condition)
+
+-- a call gives the number of its records as that count: no larger one would change its answer
+pub call-fuel : (text words : List ℕ) (view : View) (k : ℕ) → capacity words ≤ k →
+    ruleOf text words view ≡ ruleAt (tokens text words) view (rangeOf words) k
+unfolding ruleOf
+call-fuel text words view k h = rule-fuel (tokens text words) view (rangeOf words) (no-token text words) (omega arith) h

@@ -1,0 +1,89 @@
+-- No answer of the whole call has the number `noRoom`: the result of `tergyosul_read` is that number just where there is no room.
+use Prim.Native.Nat.{ℕ, _<_, _≤_}
+use native.Mathlib.Omega.{arith}
+use mathlib.Core.Path.{_≡_, refl}
+use mathlib.Core.Bool.{Bool, true, false}
+use mathlib.Core.List.{List}
+use lib.ListN.{length}
+use lib.Dec.{ltb}
+use borrow.Author.Tests.{ltb-true}
+use Rattle.text.specs.Choice.{pick}
+use Rattle.text.specs.Utf8.{Character}
+use Rattle.text.specs.Place.{checkOf}
+use Rattle.text.specs.declared.place.Checked.{Checked}
+use Rattle.text.specs.declared.place.Checked.the-variants.{WellFormed, IllFormed}
+use Rattle.tokens.specs.Result.{Res, ok, no}
+use Rattle.tokens.specs.Lex.{Lexing, lexText, mostBytes, leastWords}
+use Rattle.tokens.specs.Layout.{Laid, end, refusal, next, Lexical}
+use Rattle.tokens.proofs.LayoutLaws.{laid}
+use Rattle.sheet.specs.Sheet.{sheetCheck}
+use Rattle.sheet.specs.View.{View}
+use Rattle.sheet.specs.declared.rows.Sheet.{Sheet}
+use Rattle.model.specs.Lists.{acceptedWith, refusedWith}
+use Rattle.references.proofs.NumberLaws.{Refuses}
+use Rattle.language.proofs.RefusalLaws.{rule-refuses}
+use Rattle.language.specs.Section.{Lists}
+use Rattle.language.specs.Read.{parsed, ruleOf, lexedFrom, byText, bySheet, Outcome, seen, readOf}
+use Rattle.flat.specs.Flat.{answerWords}
+use Rattle.tergyosul.specs.Room.{noRoom, byRoom}
+
+-- document 01's last number is 41
+abbrev Known : ℕ → Type 0
+Known n = n ≤ 41
+
+lexical-known : {n : ℕ} → Lexical n → Known n
+lexical-known Lexical.no-token = omega arith
+lexical-known Lexical.unterminated = omega arith
+lexical-known Lexical.too-large = omega arith
+lexical-known Lexical.no-time = omega arith
+lexical-known Lexical.places = omega arith
+lexical-known Lexical.no-unit = omega arith
+lexical-known Lexical.long = omega arith
+lexical-known Lexical.fine = omega arith
+lexical-known Lexical.too-many = omega arith
+
+parsed-known : (l : Lexing) (m : Res Lists) → Refuses m → Known (parsed l m .number)
+unfolding parsed acceptedWith refusedWith Refuses
+parsed-known l (ok lists i) h = omega arith
+parsed-known l (no r) h = h .1
+
+lexed-known : (text : List ℕ) (view : View) (whole l : Lexing) {before : List Character} → Laid text before l →
+    Known (lexedFrom text view whole l .number)
+unfolding lexedFrom refusedWith ruleOf
+lexed-known text view whole l (end gap t h) = parsed-known whole _ (rule-refuses _ _ _ _)
+lexed-known text view whole l (refusal gap c rest t h n) = lexical-known n
+lexed-known text view whole l (next gap u rest t s h k) = lexed-known text view whole _ k
+
+module _ (text sheet words : List ℕ) where
+  text-known : (c : Checked) → Known (byText text (seen sheet) words c .answer .number)
+  unfolding byText refusedWith
+  text-known WellFormed = lexed-known text (seen sheet) (lexText text) (lexText text) (laid text)
+  text-known (IllFormed line column) = omega arith
+
+  sheet-known : (x : Sheet) → Known (bySheet text (seen sheet) words x .answer .number)
+  unfolding bySheet refusedWith
+  sheet-known Sheet.WellFormed = text-known (checkOf text)
+  sheet-known (Sheet.BadLine n) = omega arith
+
+  either : (b : Bool) (x y : Outcome) → Known (x .answer .number) → Known (y .answer .number) → Known (pick b x y .answer .number)
+  either true x y h k = h
+  either false x y h k = k
+
+  read-known : Known (readOf text sheet words .answer .number)
+  unfolding readOf refusedWith
+  read-known =
+      let first : Known 1 = omega arith in
+      let second : Known 2 = omega arith in
+      either (ltb mostBytes (length text)) (record { answer = refusedWith 1 0 0 0; buffer = words }) _ first
+      (either (ltb (length words) leastWords) (record { answer = refusedWith 2 0 0 0; buffer = words }) _ second (sheet-known (sheetCheck sheet)))
+
+  -- "No refusal has this number."
+  pub no-room-alone : (answer : List ℕ) → byRoom answerWords answer noRoom (readOf text sheet words .answer .number) ≡ noRoom →
+      length answer < answerWords
+  unfolding byRoom
+  no-room-alone answer e = by (ltb (length answer) answerWords) refl e
+    where
+      by : (b : Bool) → ltb (length answer) answerWords ≡ b → pick b noRoom (readOf text sheet words .answer .number) ≡ noRoom →
+          length answer < answerWords
+      by true p q = ltb-true _ _ p
+      by false p q = let known = read-known in absurd (omega arith)
