@@ -1,22 +1,17 @@
 -- The amount of a duration is the one that specs/Amount.antt allows, and no other: 18 exactly if it is no whole number of milliseconds, 17
 -- exactly if it is too large.
-use Prim.Native.Nat.{ℕ, _+_, _*_, _/_, _%_, _^_, _<_}
+use Prim.Native.Nat.{ℕ, _+_, _*_, _/_, _%_, _^_, _<_, _≤_}
 use mathlib.Core.Path.{_≡_, _∙_, refl, ap, sym}
 use native.Mathlib.Omega.{arith}
-use native.Mathlib.Nat.{div-add-mod', mul-div-cancel}
+use native.Mathlib.Nat.{div-add-mod', mul-div-cancel, mul-add-div-right, mul-add-mod-self-right, mod-eq-of-lt, zero-mod, zero-div}
 use lib.Dec.{ltb, eqb}
-use borrow.Author.Tests.{ltb-true, ltb-false, eqb-true, eqb-false}
+use borrow.Author.Tests.{ltb-true, ltb-false, eqb-true, eqb-false, ne-eqb, lt-ltb, le-ltb}
 use Rattle.text.proofs.Tests.{picked}
-use Rattle.tokens.specs.Amount.{Amounts, Judgeable, Judged-amount, beyond, fine, long, exact}
-use Rattle.tokens.specs.Duration.{below64, wholeMs, totalMs, amount}
-use Rattle.tokens.specs.declared.duration.Total.{Total}
+use Rattle.tokens.specs.Amount.{Amounts, mostMs, Judged-amount, fine, long, exact}
+use Rattle.tokens.specs.Duration.{boundedMs, wholeMs, amount}
 use Rattle.tokens.specs.declared.duration.Amount.{Amount}
-use Rattle.tokens.specs.declared.duration.Amount.the-variants.{Ms}
-use Rattle.tokens.proofs.PowerLaws.{ten-pos}
-
--- the total in parts of which 10 ^ d make a millisecond, grouped by the unit or by the parts
-parts : (w f t u : ℕ) → w * u * t + f * u ≡ (w * t + f) * u
-parts w f t u = omega arith
+use Rattle.tokens.specs.declared.duration.Amount.the-variants.{Ms, Refused}
+use Rattle.tokens.proofs.PowerLaws.{ten-pos, ten-le}
 
 -- a product has no remainder, and its quotient is the other factor
 no-rest : (ms n t : ℕ) → 0 < t → ms * t ≡ n → n % t ≡ 0
@@ -33,7 +28,7 @@ amounts-one {d} {m} {n} a b =
 
 module _ (w f d u : ℕ) where
   abbrev total : ℕ
-  total = w * u * 10 ^ d + f * u
+  total = (w * 10 ^ d + f) * u
 
   abbrev Judged : Amount → Type 0
   Judged = Judged-amount w f d u
@@ -42,52 +37,81 @@ module _ (w f d u : ℕ) where
   whole-amounts : total % 10 ^ d ≡ 0 → Amounts w f d u (total / 10 ^ d)
   whole-amounts e =
       let n = total in
-      record { proportion = omega (arith, div-add-mod' n (10 ^ d)) ∙ parts w f (10 ^ d) u }
+      record { proportion = omega (arith, div-add-mod' n (10 ^ d)) }
 
   none-amounts : (total % 10 ^ d ≡ 0 → ⊥) → (ms : ℕ) → Amounts w f d u ms → ⊥
-  none-amounts h ms a = h (no-rest ms total (10 ^ d) (ten-pos d) (a .proportion ∙ sym (parts w f (10 ^ d) u)))
+  none-amounts h ms a = h (no-rest ms total (10 ^ d) (ten-pos d) (a .proportion))
 
-  whole-judged : Judgeable w f d u → Judged (wholeMs total (10 ^ d))
-  unfolding wholeMs
-  whole-judged j =
-      let n = total in
-      let t = 10 ^ d in
-      picked Judged (eqb (n % t) 0)
-      (λ h. let a = whole-amounts (eqb-true (n % t) 0 h) in
-      picked Judged (ltb (n / t) 4294967296)
-      (λ k. exact j a (omega (arith, ltb-true (n / t) 4294967296 k)))
-      (λ k. long j a (omega (arith, ltb-false (n / t) 4294967296 k))))
-      (λ h. fine j (none-amounts (eqb-false (n % t) 0 h)))
+  bounded-judged : (ms : ℕ) → Amounts w f d u ms → Judged (boundedMs ms)
+  unfolding boundedMs
+  bounded-judged ms a =
+      picked Judged (ltb mostMs ms) (λ h. long a (ltb-true mostMs ms h)) (λ h. exact a (ltb-false mostMs ms h))
 
   -- the definition answers as the rules say
   pub amount-judged : Judged (amount w f d u)
-  unfolding amount below64
+  unfolding amount wholeMs
   amount-judged =
-      picked Judged (ltb 19 d)
-      (λ h. beyond (λ j. omega (arith, j .places, ltb-true 19 d h)))
-      (λ h. picked (λ (t : Total). Judged (totalMs (10 ^ d) t)) (ltb total (2 ^ 64))
-      (λ k. whole-judged (record { places = ltb-false 19 d h; total = ltb-true total (2 ^ 64) k }))
-      (λ k. beyond (λ j. omega (arith, j .total, ltb-false total (2 ^ 64) k))))
+      let n = total in
+      let t = 10 ^ d in
+      picked Judged (eqb (n % t) 0)
+      (λ h. bounded-judged (n / t) (whole-amounts (eqb-true (n % t) 0 h)))
+      (λ h. fine (none-amounts (eqb-false (n % t) 0 h)))
 
 -- and the rules allow one answer
 pub amount-one : {w f d u : ℕ} {x y : Amount} → Judged-amount w f d u x → Judged-amount w f d u y → x ≡ y
-amount-one (beyond h) (beyond k) = refl
-amount-one (beyond h) (fine j n) = absurd (h j)
-amount-one (beyond h) (long j a l) = refl
-amount-one (beyond h) (exact j a l) = absurd (h j)
-amount-one (fine j n) (beyond k) = absurd (k j)
-amount-one (fine j n) (fine k m) = refl
-amount-one (fine j n) (long {ms} k a l) = absurd (n ms a)
-amount-one (fine j n) (exact {ms} k a l) = absurd (n ms a)
-amount-one (long i a l) (beyond k) = refl
-amount-one (long {ms} i a l) (fine k m) = absurd (m ms a)
-amount-one (long i a l) (long k b m) = refl
-amount-one (long i a l) (exact k b m) = absurd (let e = amounts-one a b in omega arith)
-amount-one (exact i a l) (beyond k) = absurd (k i)
-amount-one (exact {ms} i a l) (fine k m) = absurd (m ms a)
-amount-one (exact i a l) (long k b m) = absurd (let e = amounts-one a b in omega arith)
-amount-one (exact i a l) (exact k b m) = ap Ms (amounts-one a b)
+amount-one (fine n) (fine m) = refl
+amount-one (fine n) (long {ms} a l) = absurd (n ms a)
+amount-one (fine n) (exact {ms} a l) = absurd (n ms a)
+amount-one (long {ms} a l) (fine m) = absurd (m ms a)
+amount-one (long a l) (long b m) = refl
+amount-one (long a l) (exact b m) = absurd (let e = amounts-one a b in omega arith)
+amount-one (exact {ms} a l) (fine m) = absurd (m ms a)
+amount-one (exact a l) (long b m) = absurd (let e = amounts-one a b in omega arith)
+amount-one (exact a l) (exact b m) = ap Ms (amounts-one a b)
 
--- so the definition gives an answer exactly if the rules do
+-- so the definition is the only answer that they allow
 pub amount-only : (w f d u : ℕ) {x : Amount} → Judged-amount w f d u x → amount w f d u ≡ x
 amount-only w f d u h = amount-one (amount-judged w f d u) h
+
+-- The code's way to it: whole milliseconds apart from the parts of one.
+
+pub parts-whole : (ms n scale : ℕ) {x : Amount} → 0 < scale → n % scale ≡ 0 → x ≡ boundedMs (ms + n / scale) → x ≡ wholeMs (ms * scale + n) scale
+unfolding wholeMs
+parts-whole ms n scale p e h = rw (mul-add-mod-self-right ms scale n, e, mul-add-div-right p ms n) h
+
+pub parts-rest : (ms n scale : ℕ) → 0 < scale → (n % scale ≡ 0 → ⊥) → Refused 18 ≡ wholeMs (ms * scale + n) scale
+unfolding wholeMs
+parts-rest ms n scale p e = rw (mul-add-mod-self-right ms scale n, ne-eqb (n % scale) 0 e)
+
+-- the amount by whole milliseconds and parts
+pub by-parts : (w f d u : ℕ) {x : Amount} → x ≡ wholeMs (w * u * 10 ^ d + f * u) (10 ^ d) → x ≡ amount w f d u
+unfolding amount
+by-parts w f d u {x} h =
+    let t = 10 ^ d in
+    let e : w * u * t + f * u ≡ (w * t + f) * u = omega arith in
+    h ∙ ap (λ (n : ℕ). wholeMs n t) e
+
+-- more than 32 bits hold, and what they hold
+pub too-long : (ms : ℕ) → mostMs < ms → Refused 17 ≡ boundedMs ms
+unfolding boundedMs
+too-long ms h = rw (lt-ltb mostMs ms h)
+
+pub not-long : (ms : ℕ) {n : ℕ} → n ≡ ms → ms ≤ mostMs → Ms n ≡ boundedMs ms
+unfolding boundedMs
+not-long ms e h = rw (e, le-ltb mostMs ms h)
+
+-- whole milliseconds alone: no parts of one
+pub no-parts : (w f d u : ℕ) {x : Amount} → f * u ≡ 0 → x ≡ boundedMs (w * u + 0) → x ≡ amount w f d u
+no-parts w f d u z h =
+    let t = 10 ^ d in
+    by-parts w f d u (rw z (parts-whole (w * u) 0 t (ten-pos d) (zero-mod t) (rw (zero-div t) h)))
+
+-- a fraction of so many digits that a millisecond has more parts than it
+pub fine-parts : (w f d u : ℕ) → (f * u ≡ 0 → ⊥) → f * u < 10 ^ d → Refused 18 ≡ amount w f d u
+fine-parts w f d u z few =
+    let t = 10 ^ d in
+    by-parts w f d u (parts-rest (w * u) (f * u) t (ten-pos d) (λ e. z (sym (mod-eq-of-lt few) ∙ e)))
+
+-- both promises of an amount
+pub judged-by : (w f d u : ℕ) {x : Amount} → x ≡ amount w f d u → (x ≡ amount w f d u) × Judged-amount w f d u x
+judged-by w f d u h = (h, rw h (amount-judged w f d u))

@@ -20,7 +20,7 @@ use Rattle.text.specs.Ascii.{isDigit, isAlpha, isWordStart, isWordPart}
 use Rattle.tokens.specs.Scan.{quoted, digits}
 use Rattle.tokens.specs.Kind.{DURATION}
 use Rattle.tokens.specs.Duration.{unitOf, amount}
-use Rattle.tokens.specs.Amount.{Amounts, mostMs, Judged-amount, beyond, fine, long, exact}
+use Rattle.tokens.specs.Amount.{Amounts, mostMs, Judged-amount, fine, long, exact}
 use Rattle.tokens.specs.Token.{look, singleKind, pairKind, single, punct, string, spanning, digitsIn, timeBy, time, decimal, amountTo}
 use Rattle.tokens.specs.Token.{durationBy, duration, fractionAt, fraction, point, numberAt, number, word, tokenAt}
 use Rattle.tokens.specs.Layout.{Digits, value, Unit-of, Duration, Symbol, Spelled, Lexical, firstByte, endByte}
@@ -227,10 +227,9 @@ Exactly whole frac d unit (Amount.Refused number) = Lexical number
 
 exactly : {whole frac d unit : ℕ} {x : Amount} → Judged-amount whole frac d unit x → Exactly whole frac d unit x
 unfolding Exactly
-exactly (beyond h) = Lexical.long
-exactly (fine j n) = Lexical.fine
-exactly (long j a m) = Lexical.long
-exactly (exact j a m) = (a, m)
+exactly (fine n) = Lexical.fine
+exactly (long a m) = Lexical.long
+exactly (exact a m) = (a, m)
 
 -- letters that have milliseconds are a unit
 unit-of : (w : List ℕ) → (unitOf w ≡ 0 → ⊥) → Unit-of w (unitOf w)

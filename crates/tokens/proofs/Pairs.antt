@@ -10,7 +10,7 @@ use Rattle.text.specs.Part.{partOf, sameBytes}
 use Rattle.text.specs.Place.{stepOf, after, counted}
 use Rattle.text.specs.Ascii.{isDigit, isAlpha, isWordStart, isWordPart}
 use Rattle.tokens.specs.Scan.{passed, triviaMode, trivia, withDigit, digits}
-use Rattle.tokens.specs.Duration.{unitOf, below64, wholeMs, amount}
+use Rattle.tokens.specs.Duration.{unitOf, boundedMs, wholeMs, amount}
 use Rattle.tokens.specs.Token.{singleKind, pairKind, single, punct, timeBy, time, decimal, amountTo, durationBy, duration, fractionAt, fraction, point, numberAt, number, tokenAt}
 use Rattle.tokens.specs.Lex.{Lexing, ended, refused, token, recordOf, lexFrom, lexText}
 
@@ -57,5 +57,5 @@ Holds [] = Unit {0}
 Holds (r ∷ rs) = (shown (lexText (ascii (r .text))) ≡ r .gives) × Holds rs
 
 pairs : Holds table
-unfolding table _⇒_ shown lexText lexFrom recordOf chars charsFrom front sized sequenceLength stepOf after counted trivia triviaMode isWhite whiteSpace among isDigit isAlpha isWordStart isWordPart passed withDigit digits partOf sameBytes unitOf below64 wholeMs amount singleKind pairKind single punct timeBy time decimal amountTo durationBy duration fractionAt fraction point numberAt number tokenAt
+unfolding table _⇒_ shown lexText lexFrom recordOf chars charsFrom front sized sequenceLength stepOf after counted trivia triviaMode isWhite whiteSpace among isDigit isAlpha isWordStart isWordPart passed withDigit digits partOf sameBytes unitOf boundedMs wholeMs amount singleKind pairKind single punct timeBy time decimal amountTo durationBy duration fractionAt fraction point numberAt number tokenAt
 pairs = (refl, (refl, (refl, (refl, (refl, (refl, (refl, (refl, (refl, (refl, (refl, (refl, (refl, (refl, tt))))))))))))))

@@ -4,9 +4,6 @@ use mathlib.Core.Path.{_≡_, _∙_, refl, ap, subst, sym}
 use native.Mathlib.Omega.{arith}
 use native.Mathlib.Numerals.{add-one}
 use native.Mathlib.Nat.{pow-suc, pow-succ', mul-one, mul-assoc, mul-le-mul-left, mul-le-mul, pow-le-pow-right}
-use borrow.Author.Tests.{lt-ltb, le-ltb}
-use Rattle.tokens.specs.Duration.{below64}
-use Rattle.tokens.specs.declared.duration.Total.the-variants.{Below, Over}
 
 pub ten-le : {i j : ℕ} → i ≤ j → 10 ^ i ≤ 10 ^ j
 ten-le h = pow-le-pow-right {n = 10} (omega arith) h
@@ -38,11 +35,6 @@ word-product a b h k =
     let q : b ≤ 4294967295 = omega arith in
     mul-le-mul p q
 
--- a number that 64 bits do not hold, and one that they hold
-pub total-over : (n : ℕ) → 2 ^ 64 ≤ n → Over ≡ below64 n
-unfolding below64
-total-over n h = rw (le-ltb n (2 ^ 64) h)
-
-pub total-below : (n : ℕ) {m : ℕ} → m ≡ n → m < 2 ^ 64 → Below m ≡ below64 n
-unfolding below64
-total-below n {m} e h = rw (← e, lt-ltb m (2 ^ 64) h)
+-- 64 bits hold a lower power times ten
+pub ten-held : (d i : ℕ) {w : ℕ} → w ≡ 10 ^ i → 10 ^ d < 2 ^ 64 → (i + 1 ≤ d) → w * 10 < 2 ^ 64
+ten-held d i e h k = omega (arith, ten-suc i, ten-le k)

@@ -1,5 +1,7 @@
-//! What a case covered, read off its answer in the replay format.
+//! What a case covered, read off its answer in the replay format, and off its text for what the answer does not say.
 
+use crate::durations;
+use cases::Case;
 use std::io::{self, Write};
 
 const TOKENS: &[&str] = &[
@@ -59,7 +61,7 @@ const COUNTS: &[&str] = &["T 1", "T 2", "T 3", "T 4", "C 0", "C 1", "C 2", "C 3"
 const GROUPS: &[(&str, &[&str])] = &[
     ("refused", REFUSALS), ("token", TOKENS), ("trigger", TRIGGERS), ("condition", CONDITIONS), ("reading", READINGS),
     ("event", EVENTS), ("selector", SELECTORS), ("target", TARGETS), ("bound", BOUNDS), ("comparison", COMPARISONS),
-    ("value", VALUES), ("choice", CHOICES), ("count", COUNTS),
+    ("value", VALUES), ("choice", CHOICES), ("count", COUNTS), ("duration", durations::SORTS),
 ];
 
 /// The places of the groups in `GROUPS`.
@@ -76,6 +78,7 @@ const COMPARISON: usize = 9;
 const VALUE: usize = 10;
 const CHOICE: usize = 11;
 const COUNT: usize = 12;
+const DURATION: usize = 13;
 
 /// The set of what one answer shows; each member is numbered along `GROUPS`.
 #[derive(Debug, Clone, Copy, Default, PartialEq, Eq, Hash, PartialOrd, Ord)]
@@ -99,8 +102,9 @@ pub fn feature_name(feature: usize) -> String {
 }
 
 impl Features {
-    pub fn of(answer: &str) -> Features {
+    pub fn of(case: &Case, answer: &str) -> Features {
         let mut set = Features::default();
+        durations::sorts(case, answer).into_iter().for_each(|sort| set.mark(DURATION, Some(sort)));
         for line in answer.lines() {
             let mut fields = line.split(' ');
             match fields.next() {
@@ -202,8 +206,8 @@ impl Default for Coverage {
 }
 
 impl Coverage {
-    pub fn add(&mut self, answer: &str, in_domain: bool) {
-        let set = Features::of(answer);
+    pub fn add(&mut self, case: &Case, answer: &str, in_domain: bool) {
+        let set = Features::of(case, answer);
         set.members().for_each(|feature| self.counts[feature] += 1);
         self.cases += 1;
         self.in_domain += u64::from(in_domain);

@@ -4,7 +4,7 @@
 use cases::{write_case, Case};
 use compare_cases::external::External;
 use compare_cases::features::Coverage;
-use compare_cases::options::{self, Options, Vectors};
+use compare_cases::options::{self, Options, Stored, Vectors};
 use compare_cases::readers::{quiet_panics, Readers};
 use compare_cases::run::{run, smallest, Difference, Outcome, Plan};
 use compare_cases::vectors;
@@ -23,9 +23,10 @@ fn main() -> ExitCode {
     quiet_panics();
     let replay = options.replay.clone().map(|path| External { path });
     let readers = Readers { second: &second::answer, in_domain: &second::in_domain, supplied: &supplied::answer, replay };
-    let result = match &options.vectors {
-        Some(asked) => make_vectors(&options, asked, &readers),
-        None => compare(&options, &readers),
+    let result = match (&options.vectors, &options.extend) {
+        (Some(asked), _) => make_vectors(&options, asked, &readers),
+        (None, Some(stored)) => extend_vectors(&options, stored, &readers),
+        (None, None) => compare(&options, &readers),
     };
     match result {
         Ok(true) => ExitCode::SUCCESS,
@@ -103,13 +104,23 @@ fn report(options: &Options, readers: &Readers, difference: &Difference) -> io::
 fn make_vectors(options: &Options, asked: &Vectors, readers: &Readers) -> io::Result<bool> {
     let make = |index| generate::case(options.seed, options.from + index);
     let chosen = vectors::choose(asked.want, options.cases, &make, generate::landmarks(), readers.second);
+    store(options, &chosen, &asked.input, &asked.output, readers)
+}
+
+/// Puts the requests' cases behind the stored ones, and writes the answers of all; true as above.
+fn extend_vectors(options: &Options, stored: &Stored, readers: &Readers) -> io::Result<bool> {
+    let cases = vectors::extended(vectors::stored(&stored.input)?, generate::requests());
+    store(options, &cases, &stored.input, &stored.output, readers)
+}
+
+fn store(options: &Options, chosen: &[Case], input: &str, output: &str, readers: &Readers) -> io::Result<bool> {
     let again = |index| chosen[index as usize].clone();
     if !part(options, readers, &plan(options, &again, chosen.len() as u64), &mut Coverage::default())? {
         return Ok(false);
     }
-    vectors::write(&chosen, &asked.input, &asked.output, readers.second)?;
+    vectors::write(chosen, input, output, readers.second)?;
     println!("{} cases written", chosen.len());
-    let short = vectors::short_of(&chosen, readers.second);
+    let short = vectors::short_of(chosen, readers.second);
     if !short.is_empty() {
         println!("too few cases for: {}", short.join(", "));
     }

@@ -12,11 +12,19 @@ pub const USAGE: &str = "compare-cases [options]
   --threads T        1 or 2 (default 1)
   --allow-zero       do not fail when something was not covered
   --smallest FILE    write the smallest differing case there as replay input
-  --vectors K IN OUT choose about K of the N cases, and write them to IN and their answers to OUT";
+  --vectors K IN OUT choose about K of the N cases, and write them to IN and their answers to OUT
+  --extend IN OUT    put the cases of document 02's requests behind those in IN, and write all answers to OUT";
 
 #[derive(Debug, Clone, PartialEq)]
 pub struct Vectors {
     pub want: usize,
+    pub input: String,
+    pub output: String,
+}
+
+/// The files of stored cases and of their answers.
+#[derive(Debug, Clone, PartialEq)]
+pub struct Stored {
     pub input: String,
     pub output: String,
 }
@@ -33,6 +41,7 @@ pub struct Options {
     pub allow_zero: bool,
     pub smallest: Option<String>,
     pub vectors: Option<Vectors>,
+    pub extend: Option<Stored>,
 }
 
 impl Default for Options {
@@ -48,6 +57,7 @@ impl Default for Options {
             allow_zero: false,
             smallest: None,
             vectors: None,
+            extend: None,
         }
     }
 }
@@ -79,6 +89,9 @@ pub fn parse(words: impl IntoIterator<Item = String>) -> Result<Options, String>
                 let want = number(words.next(), &option)? as usize;
                 let (input, output) = (path(words.next(), &option)?, path(words.next(), &option)?);
                 options.vectors = Some(Vectors { want, input, output });
+            }
+            "--extend" => {
+                options.extend = Some(Stored { input: path(words.next(), &option)?, output: path(words.next(), &option)? });
             }
             _ => return Err(format!("unknown option {option}")),
         }

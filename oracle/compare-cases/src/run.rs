@@ -108,7 +108,7 @@ fn compare(cases: &[Case], readers: &Readers, coverage: &mut Coverage) -> io::Re
     for case in cases {
         let answer = readers.second(case);
         let supplied = readers.other(Other::Supplied, case);
-        coverage.add(&answer, supplied.is_some());
+        coverage.add(case, &answer, supplied.is_some());
         if let Some(supplied) = supplied.filter(|supplied| *supplied != answer) {
             let case = case.clone();
             return Ok(Some(Difference { case, other: Other::Supplied, answer: supplied, alone: true }));

@@ -115,7 +115,8 @@ fn features_are_read_off_an_answer() {
     let answer = "case 1\ntoken 5 5000 0 2 1 1\ntoken 22 0 0 1 1 1\nbuffer kept\naccepted 2 3\n\
         T input_event group 0 2 - raw 5\nT hcl_override broadcast 0 clears\n\
         C lamp_level 0 1 ge offset lamp_cct 0 2 -5\nC var_compare x61 ne text x\nC time_in_range clock 5 solar sunset -3\n";
-    let names: Vec<String> = Features::of(answer).members().map(feature_name).collect();
+    let case = Case { id: 1, words: 6_144, text: b"5s".to_vec(), sheet: Vec::new() };
+    let names: Vec<String> = Features::of(&case, answer).members().map(feature_name).collect();
     let wanted = [
         "token 5", "token 22", "trigger input_event", "trigger hcl_override", "condition time_in_range", "condition lamp_level",
         "condition var_compare", "reading lamp_cct", "event raw", "selector group", "target broadcast", "bound clock",
@@ -127,10 +128,49 @@ fn features_are_read_off_an_answer() {
 }
 
 #[test]
+fn sorts_of_durations_are_read_off_the_text() {
+    let shown = |text: &str| {
+        let case = Case { id: 1, words: 6_144, text: text.into(), sheet: b"primary,0".to_vec() };
+        let names = Features::of(&case, &second::answer(&case)).members().map(feature_name);
+        names.filter_map(|name| name.strip_prefix("duration ").map(String::from)).collect::<Vec<_>>().join(", ")
+    };
+    let zeros = "0".repeat(20);
+    assert_eq!(shown("when every 5s when at sunset + 1.5s"), "");
+    assert_eq!(shown(&format!("when every 1.{zeros}s")), "20 places taken, long s, every long");
+    assert_eq!(shown("when every 1845.0000000000000000s"), "long taken with fewer places, long s, every long");
+    assert_eq!(shown(&format!("when every 0.{zeros}h")), "20 places taken, long h, every long 35");
+    assert_eq!(shown(&format!("when at sunset\n- 2147483.{zeros}s")), "20 places taken, long s, solar long");
+    assert_eq!(shown(&format!("when at sunset + 2147484.{zeros}s")), "20 places taken, long s, solar long 36");
+    let older = "when http trigger if last_fired(\"\u{e9}\") older than";
+    assert_eq!(shown(&format!("{older} 1193.{zeros}h")), "20 places taken, long near the most, long h, last_fired long");
+    assert_eq!(shown(&format!("{older} 5.{}ms", "0".repeat(1_000))), "20 places taken, 1000 places taken, long ms, last_fired long");
+    assert_eq!(shown(&format!("{older}\n1194.{zeros}h")), "20 places 17, long 17");
+    assert_eq!(shown(&format!("{older} 1.{zeros}1m")), "20 places 18, long 18");
+    assert_eq!(shown(&format!("{older} 1.{zeros}1000000001m")), "20 places 12");
+    assert_eq!(shown(&format!("{older} 1.{zeros}x")), "20 places 16");
+    assert_eq!(shown(&format!("{older} 1.{zeros}")), "20 places 15");
+    assert_eq!((shown("1194h"), shown("0.5ms")), ("17 as before".to_string(), "18 as before".to_string()));
+}
+
+#[test]
+fn the_generators_durations_are_what_they_are_called() {
+    use generate::vocabulary::{DURATIONS, WRONG_DURATIONS};
+    let taken = |text: &[u8]| matches!(&second::lexing(text, 6_144).0, lexing if lexing.number == 0 && lexing.records.len() == 1);
+    assert!(DURATIONS.iter().all(|text| taken(text.as_bytes())));
+    assert!(!WRONG_DURATIONS.iter().any(|text| taken(text.as_bytes())));
+    let mut rng = generate::Rng::new(SEED, 0);
+    for _ in 0..20_000 {
+        let text = generate::durations::fitting(&mut rng);
+        assert!(taken(&text), "{}", text.escape_ascii());
+    }
+}
+
+#[test]
 fn coverage_counts_cases_and_names_zeros() {
     let mut coverage = Coverage::default();
-    coverage.add("case 1\nbuffer kept\nrefused 41 1 1 0\n", true);
-    coverage.add("case 2\nbuffer kept\naccepted 1 0\nT every 1000\n", false);
+    let case = Case { id: 1, words: 6_144, text: Vec::new(), sheet: Vec::new() };
+    coverage.add(&case, "case 1\nbuffer kept\nrefused 41 1 1 0\n", true);
+    coverage.add(&case, "case 2\nbuffer kept\naccepted 1 0\nT every 1000\n", false);
     let mut both = coverage.clone();
     both.merge(&coverage);
     assert_eq!((both.cases, both.in_domain, both.accepted, both.refused), (4, 2, 2, 2));
@@ -153,6 +193,8 @@ fn options_are_read() {
     let options = words("--cases 5 --threads 9 --vectors 3 a b --allow-zero").unwrap();
     assert_eq!((options.cases, options.threads, options.allow_zero), (5, 2, true));
     assert_eq!(options.vectors, Some(options::Vectors { want: 3, input: "a".into(), output: "b".into() }));
+    let stored = options::Stored { input: "a".into(), output: "b".into() };
+    assert_eq!(words("--extend a b").unwrap().extend, Some(stored));
     assert!(words("--cases x").is_err() && words("--vectors 3 a").is_err() && words("--what").is_err());
 }
 
@@ -165,4 +207,14 @@ fn vectors_take_the_smallest_first() {
     let mut lengths: Vec<usize> = chosen.iter().map(|case| case.text.len()).collect();
     lengths.sort();
     assert_eq!(lengths, [1, 2, 3, 55]);
+}
+
+#[test]
+fn stored_cases_are_extended_once() {
+    let make = |id: u64, text: &str| Case { id, words: 6_144, text: text.into(), sheet: Vec::new() };
+    let stored = vec![make(1, "a"), make(2, "b")];
+    let more = || vec![make(0, "b"), make(0, "c"), make(0, "d")];
+    let extended = vectors::extended(stored, more());
+    assert_eq!(extended, [make(1, "a"), make(2, "b"), make(3, "c"), make(4, "d")]);
+    assert_eq!(vectors::extended(extended.clone(), more()), extended);
 }

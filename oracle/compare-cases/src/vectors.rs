@@ -2,10 +2,10 @@
 
 use crate::features::{feature_count, feature_name, Features};
 use crate::readers::{guarded, Reader};
-use cases::{write_case, Case};
+use cases::{read_case, write_case, Case, Next};
 use std::collections::HashMap;
 use std::fs::File;
-use std::io::{self, BufWriter, Write};
+use std::io::{self, BufReader, BufWriter, Write};
 
 /// Every feature is to be shown by so many cases.
 const AT_LEAST: usize = 2;
@@ -81,7 +81,7 @@ fn candidates(scan: u64, make: &dyn Fn(u64) -> Case, second: Reader) -> Vec<Cand
         let found = (size(&case, &answer), index);
         let next = feature_count() + contexts.len();
         let context = *contexts.entry(context(&case, &answer)).or_insert(next);
-        let key = (Features::of(&answer), context);
+        let key = (Features::of(&case, &answer), context);
         if let Some(known) = smallest.get_mut(&key) {
             *known = found.min(*known);
         } else if found.0 <= MOST_EACH && smallest.len() < MOST_CANDIDATES {
@@ -120,7 +120,7 @@ pub fn choose(want: usize, scan: u64, make: &dyn Fn(u64) -> Case, landmarks: Vec
     for case in &landmarks {
         let answer = guarded(second, case);
         together += size(case, &answer);
-        Features::of(&answer).members().for_each(|feature| *counts.entry(feature).or_default() += 1);
+        Features::of(case, &answer).members().for_each(|feature| *counts.entry(feature).or_default() += 1);
     }
     let mut list = candidates(scan, make, second);
     let mut chosen = Vec::new();
@@ -136,11 +136,35 @@ pub fn choose(want: usize, scan: u64, make: &dyn Fn(u64) -> Case, landmarks: Vec
     chosen
 }
 
+/// The cases of a file of replay input.
+pub fn stored(input: &str) -> io::Result<Vec<Case>> {
+    let mut file = BufReader::new(File::open(input)?);
+    let mut cases = Vec::new();
+    loop {
+        match read_case(&mut file)? {
+            Next::Case(case) => cases.push(case),
+            Next::End => return Ok(cases),
+            Next::Bad => return Err(io::Error::other(format!("{input} is no replay input"))),
+        }
+    }
+}
+
+/// The cases, unchanged, and behind them those of `more` that are not among them, numbered on.
+pub fn extended(mut cases: Vec<Case>, more: Vec<Case>) -> Vec<Case> {
+    for case in more {
+        if !cases.iter().any(|known| (known.words, &known.text, &known.sheet) == (case.words, &case.text, &case.sheet)) {
+            let id = cases.last().map_or(1, |last| last.id + 1);
+            cases.push(Case { id, ..case });
+        }
+    }
+    cases
+}
+
 /// The features that too few of the cases show.
 pub fn short_of(cases: &[Case], second: Reader) -> Vec<String> {
     let mut counts = vec![0; feature_count()];
     for case in cases {
-        Features::of(&guarded(second, case)).members().for_each(|feature| counts[feature] += 1);
+        Features::of(case, &guarded(second, case)).members().for_each(|feature| counts[feature] += 1);
     }
     (0..counts.len()).filter(|&feature| counts[feature] < AT_LEAST).map(feature_name).collect()
 }

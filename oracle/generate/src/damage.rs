@@ -1,5 +1,6 @@
 //! Damage to good texts: by tokens before they are written, and by bytes afterwards.
 
+use crate::durations;
 use crate::grammar::quoted;
 use crate::rng::Rng;
 use crate::spell::Token;
@@ -16,6 +17,7 @@ pub fn any_token(rng: &mut Rng) -> Token {
         5..=8 => SIGNS,
         9 => INTEGERS,
         10 => rng.pick(&[TIMES, TIMES, WRONG_TIMES]),
+        11 if rng.once_in(3) => return durations::any(rng),
         11 => rng.pick(&[DURATIONS, DURATIONS, WRONG_DURATIONS]),
         12 => DECIMALS,
         13 => return quoted(rng.pick(NAMES)),
@@ -50,6 +52,9 @@ fn like(rng: &mut Rng, token: &Token) -> Token {
         if token.contains(&b':') {
             rng.pick(&[TIMES, WRONG_TIMES])
         } else if token.iter().any(u8::is_ascii_alphabetic) {
+            if rng.once_in(2) {
+                return durations::any(rng);
+            }
             rng.pick(&[DURATIONS, WRONG_DURATIONS])
         } else {
             rng.pick(&[INTEGERS, INTEGERS, DECIMALS])

@@ -88,6 +88,8 @@ const RUNS: &[Run] = &[
     text!("when controller starts if last_fired(", "", 5, pieces!["\"r\"", "\"\"", ")", "older", "than", "5s", "5", "1.5"]),
     Run { place: Place::Text, prefix: b"", glue: b"", suffix: b"", most: 5, vocabulary: pieces![
         "0", "5", ".", ":", "s", "m", "x", "\"", "#", "!", "=", ">", "_", "\n", "@", "\u{e9}"] },
+    Run { place: Place::Text, prefix: b"when every ", glue: b"", suffix: b"", most: 5, vocabulary: pieces![
+        "0", "1", ".", "4294967", "295", "0000000000", "00000000000000000000", "ms", "s", "h"] },
     Run { place: Place::Text, prefix: b"\"\xc3\xa9", glue: b"", suffix: b"\" @", most: 4, vocabulary: &[
         b"\x7f", b"\x80", b"\x8f", b"\x90", b"\x9f", b"\xa0", b"\xbf", b"\xc1", b"\xc2", b"\xe0", b"\xe1", b"\xed", b"\xef",
         b"\xf0", b"\xf4", b"\xf5"] },

@@ -4,6 +4,7 @@
 //! names have one row in scope is left to chance. A walk that slips does, here and there, what the reader must
 //! refuse: a word that is no choice, a number one past the last, a name too long, a part left out or too many.
 
+use crate::durations;
 use crate::rng::Rng;
 use crate::sheet::{Kind, Sheet, KINDS};
 use crate::spell::Token;
@@ -40,8 +41,13 @@ const EVENTS: &[&str] = &[
     "button_free", "button_stuck", "movement", "no_movement", "any_event",
 ];
 
-/// Durations that are long enough for `every`.
-const PERIODS: &[&str] = &["1000ms", "1s", "1.0s", "5m", "1h", "1193h", "4294967.295s"];
+/// Durations that are long enough for `every`, and some that are too short.
+const PERIODS: &[&str] = &[
+    "1000ms", "1s", "1.0s", "5m", "1h", "1193h", "4294967.295s", "1.00000000000000000000s", "1000.00000000000000000ms",
+];
+const SHORT_PERIODS: &[&str] = &[
+    "0s", "999ms", "0.999s", "1ms", "0.0001h", "0.00000000000000000000h", "999.00000000000000000000ms", "0.999000000s",
+];
 
 const TRIGGERS: &[fn(&mut Walk)] = &[
     |w| { w.say("timer"); w.name_in_parentheses(); w.say("fires") },
@@ -304,17 +310,23 @@ impl<'a> Walk<'a> {
 
     fn period(&mut self) {
         if self.slip() {
-            let short = self.rng.pick(&["0s", "999ms", "0.999s", "1ms", "0.0001h"]);
+            let short = self.rng.pick(SHORT_PERIODS);
             return self.say(short);
         }
-        let from = self.rng.pick(&[PERIODS, DURATIONS]);
-        let period = self.rng.pick(from);
+        if self.rng.once_in(2) {
+            return self.duration();
+        }
+        let period = self.rng.pick(PERIODS);
         self.say(period);
     }
 
     fn duration(&mut self) {
-        let from = if self.slip() { WRONG_DURATIONS } else { DURATIONS };
-        let duration = self.rng.pick(from);
+        let slip = self.slip();
+        if self.rng.once_in(6) {
+            let made = if slip { durations::any(self.rng) } else { durations::fitting(self.rng) };
+            return self.out.push(made);
+        }
+        let duration = self.rng.pick(if slip { WRONG_DURATIONS } else { DURATIONS });
         self.say(duration);
     }
 

@@ -14,10 +14,11 @@ const MOST_BYTES: usize = 16_384;
 
 /// A large text of a random sort.
 pub fn text(rng: &mut Rng, sheet: &Sheet) -> Vec<u8> {
-    match rng.below(8) {
+    match rng.below(9) {
         0..=2 => many_arguments(rng),
         3 | 4 => many_tokens(rng),
         5 => random_tokens(rng),
+        6 => many_zeros(rng),
         _ => long(rng, sheet),
     }
 }
@@ -66,6 +67,18 @@ fn soft_token(rng: &mut Rng) -> Token {
         return Cow::Borrowed(INTEGERS[rng.below(10)].as_bytes());
     }
     token
+}
+
+/// A duration with so many zeros that the text has about the longest length there may be.
+fn many_zeros(rng: &mut Rng) -> Vec<u8> {
+    let before = rng.pick(&[
+        "when every 1.", "when every 0.", "when at sunset - 4294967.", "when at sunrise + 1.", "when every 1194.",
+        "when http trigger if last_fired(\"a\") older than 5.",
+    ]);
+    let behind = rng.pick(&["s", "s", "s", "m", "ms", "h", "1s", "x", ""]);
+    let length = rng.pick(&[MOST_BYTES - 1, MOST_BYTES, MOST_BYTES, MOST_BYTES + 1, 5_000]);
+    let zeros = "0".repeat(length - before.len() - behind.len());
+    format!("{before}{zeros}{behind}").into_bytes()
 }
 
 /// A text drawn out to a length around the longest there may be.

@@ -1,11 +1,13 @@
-//! Cases for the comparison of readers: texts and name sheets from document 01's grammar, good, slightly wrong and
-//! broken, each made from a seed and an index alone.
+//! Cases for the comparison of readers: texts and name sheets from document 01's grammar and the requests of document 02
+//! that have landed, good, slightly wrong and broken, each made from a seed and an index alone.
 
 mod arguments;
 mod damage;
+pub mod durations;
 mod exhaustive;
 mod grammar;
 mod large;
+mod requests;
 mod rng;
 mod sheet;
 mod spell;
@@ -16,6 +18,7 @@ mod tests;
 
 pub use exhaustive::{exhaustive, exhaustive_case, exhaustive_count};
 pub use large::landmarks;
+pub use requests::requests;
 pub use rng::Rng;
 
 use cases::{Case, MOST_BYTES, MOST_WORDS};

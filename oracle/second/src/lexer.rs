@@ -1,5 +1,6 @@
 //! Tokens and places: the whole text is lexed before any parsing.
 
+use crate::durations::Duration;
 use crate::refusal::{Place, Refusal};
 
 /// The most tokens of a text; a further one is refused with 19.
@@ -7,7 +8,6 @@ pub const MOST_TOKENS: usize = 1_024;
 
 const MOST_RUN: u64 = 1_000_000_000;
 const MOST_PLACES: usize = 4;
-const MOST_FRACTION: usize = 19;
 
 /// The kinds 1 to 22, in document 01's order.
 #[derive(Debug, Clone, Copy, PartialEq, Eq)]
@@ -66,54 +66,34 @@ pub struct Token {
     pub place: Place,
 }
 
-/// Why lexing stopped before the end of the text.
-#[derive(Debug, Clone, Copy, PartialEq, Eq)]
-pub struct Stop {
-    pub refusal: Refusal,
-    /// Whether the refused token is a duration of 20 or more fractional digits, which is outside the domain.
-    pub long_fraction: bool,
-}
-
 #[derive(Debug)]
 pub struct Lexed {
     /// Every token, or those before the refused one.
     pub tokens: Vec<Token>,
-    /// The place of the end of text, or why lexing stopped.
-    pub end: Result<Place, Stop>,
+    /// The place of the end of text, or why lexing stopped before it.
+    pub end: Result<Place, Refusal>,
+    /// Whether a duration was read that document 01's first 17 refuses; such a text is outside the domain.
+    pub formerly_17: bool,
 }
 
-/// What is wrong with a token: a refusal's number, or the 17 of a duration with too many fractional digits.
-#[derive(Debug, Clone, Copy, PartialEq, Eq)]
-enum Fault {
-    Number(u32),
-    LongFraction,
-}
-
-impl Fault {
-    fn at(self, place: Place) -> Stop {
-        match self {
-            Fault::Number(number) => Stop { refusal: Refusal::new(number, place), long_fraction: false },
-            Fault::LongFraction => Stop { refusal: Refusal::new(17, place), long_fraction: true },
-        }
-    }
-}
+/// What is wrong with a token: the number of its refusal.
+pub type Fault = u32;
 
 /// Lexes the whole text. 19 is asked before the token is read; every place is the token's first character.
 pub fn lex(text: &str) -> Lexed {
-    let mut scanner = Scanner { text, at: 0, place: Place::FIRST };
+    let mut scanner = Scanner { text, at: 0, place: Place::FIRST, formerly_17: false };
     let mut tokens = Vec::new();
-    loop {
+    let end = loop {
         scanner.skip_blank();
         let place = scanner.place;
-        let Some(first) = scanner.peek() else {
-            return Lexed { tokens, end: Ok(place) };
-        };
-        let token = if tokens.len() == MOST_TOKENS { Err(Fault::Number(19)) } else { scanner.token(first) };
+        let Some(first) = scanner.peek() else { break Ok(place) };
+        let token = if tokens.len() == MOST_TOKENS { Err(19) } else { scanner.token(first) };
         match token {
             Ok(token) => tokens.push(token),
-            Err(fault) => return Lexed { tokens, end: Err(fault.at(place)) },
+            Err(number) => break Err(Refusal::new(number, place)),
         }
-    }
+    };
+    Lexed { tokens, end, formerly_17: scanner.formerly_17 }
 }
 
 /// The 25 characters of Unicode White_Space.
@@ -129,15 +109,16 @@ fn is_word_part(c: char) -> bool {
 
 /// A run of digits: its value, and how many digits it has.
 #[derive(Debug, Clone, Copy, Default)]
-struct Run {
-    value: u64,
-    count: usize,
+pub struct Run {
+    pub value: u64,
+    pub count: usize,
 }
 
 struct Scanner<'a> {
     text: &'a str,
     at: usize,
     place: Place,
+    formerly_17: bool,
 }
 
 impl<'a> Scanner<'a> {
@@ -194,7 +175,7 @@ impl<'a> Scanner<'a> {
     /// 10: can a token begin here? `!` begins one only as `!=`.
     fn sign(&mut self) -> Result<Kind, Fault> {
         let found = SIGNS.iter().find(|(sign, _)| self.rest().starts_with(sign));
-        let (sign, kind) = found.ok_or(Fault::Number(10))?;
+        let (sign, kind) = found.ok_or::<Fault>(10)?;
         self.take(sign.len());
         Ok(*kind)
     }
@@ -205,7 +186,7 @@ impl<'a> Scanner<'a> {
         let start = self.at;
         let inside = self.take_while(|c| c != '"' && c != '\n');
         if self.peek() != Some('"') {
-            return Err(Fault::Number(11));
+            return Err(11);
         }
         self.take(1);
         Ok(Token { kind: Kind::String, number: 0, start, length: inside.len(), place })
@@ -217,7 +198,7 @@ impl<'a> Scanner<'a> {
         let add = |sum: u64, digit: u8| sum.saturating_mul(10).saturating_add(u64::from(digit - b'0'));
         let value = digits.bytes().fold(0, add);
         if value > MOST_RUN {
-            return Err(Fault::Number(12));
+            return Err(12);
         }
         Ok(Run { value, count: digits.len() })
     }
@@ -233,7 +214,11 @@ impl<'a> Scanner<'a> {
         match (unit, fraction) {
             ("", None) => Ok((Kind::Integer, word(u128::from(whole.value), 12)?)),
             ("", Some(fraction)) => Ok((Kind::Decimal, decimal(whole, fraction)?)),
-            (unit, fraction) => Ok((Kind::Duration, duration(whole, fraction.unwrap_or_default(), unit)?)),
+            (unit, fraction) => {
+                let duration = Duration::new(whole, fraction.unwrap_or_default(), unit)?;
+                self.formerly_17 |= duration.formerly_17();
+                Ok((Kind::Duration, duration.milliseconds()?))
+            }
         }
     }
 
@@ -253,7 +238,7 @@ impl<'a> Scanner<'a> {
         let minute = self.digits()?;
         let digits_fit = hour.count <= 2 && minute.count == 2;
         if !digits_fit || hour.value > 23 || minute.value > 59 {
-            return Err(Fault::Number(13));
+            return Err(13);
         }
         word(u128::from(hour.value * 60 + minute.value), 13)
     }
@@ -262,41 +247,18 @@ impl<'a> Scanner<'a> {
 /// 15, then the second half of 12: at most four places, and at most 429496.7295; times 10,000.
 fn decimal(whole: Run, fraction: Run) -> Result<u32, Fault> {
     if fraction.count > MOST_PLACES {
-        return Err(Fault::Number(15));
+        return Err(15);
     }
     let scale = power_of_ten(MOST_PLACES - fraction.count);
     word(u128::from(whole.value) * 10_000 + u128::from(fraction.value) * scale, 12)
 }
 
-/// 16, 17, 18 and 17 again, in this order; in milliseconds.
-fn duration(whole: Run, fraction: Run, unit: &str) -> Result<u32, Fault> {
-    let unit: u128 = match unit {
-        "ms" => 1,
-        "s" => 1_000,
-        "m" => 60_000,
-        "h" => 3_600_000,
-        _ => return Err(Fault::Number(16)),
-    };
-    if fraction.count > MOST_FRACTION {
-        return Err(Fault::LongFraction);
-    }
-    let scale = power_of_ten(fraction.count);
-    let scaled = u128::from(whole.value) * unit * scale + u128::from(fraction.value) * unit;
-    if scaled > u128::from(u64::MAX) {
-        return Err(Fault::Number(17));
-    }
-    if !scaled.is_multiple_of(scale) {
-        return Err(Fault::Number(18));
-    }
-    word(scaled / scale, 17)
-}
-
-/// Ten to a power of at most 19.
+/// Ten to a power of at most 4.
 fn power_of_ten(exponent: usize) -> u128 {
     (0..exponent).fold(1, |product, _| product * 10)
 }
 
 /// A value as a word of 32 bits; one that does not fit is refused with `number`.
-fn word(value: u128, number: u32) -> Result<u32, Fault> {
-    u32::try_from(value).map_err(|_| Fault::Number(number))
+pub fn word(value: u128, number: Fault) -> Result<u32, Fault> {
+    u32::try_from(value).map_err(|_| number)
 }

@@ -1,7 +1,9 @@
-//! A second reader of document 01, in plain Rust and written from that document alone, for the comparison runs.
+//! A second reader of document 01 with the requests of document 02 that have landed, in plain Rust and written from those
+//! documents alone, for the comparison runs.
 
 mod buffer;
 mod conditions;
+mod durations;
 mod lexer;
 mod model;
 mod print;
@@ -26,8 +28,8 @@ const LEAST_WORDS: usize = 6_144;
 struct Outcome<'a> {
     buffer: Buffer,
     result: Read<Lists<'a>>,
-    /// Whether lexing stopped at a duration of 20 or more fractional digits.
-    long_fraction: bool,
+    /// Whether lexing read a duration that document 01's first 17 refuses.
+    formerly_17: bool,
 }
 
 /// The answer to a case, in the replay format.
@@ -37,17 +39,21 @@ pub fn answer(case: &Case) -> String {
 }
 
 /// Document 01's domain of the comparison: "accepted sheets, texts past questions 1 to 4 and 19, no duration of 20 or
-/// more fractional digits, and no text on which the Rust reaches a left-out form".
+/// more fractional digits, and no text on which the Rust reaches a left-out form"; less, by document 02 §2, "texts with a
+/// duration that the old first 17 refuses", whatever is answered now.
 pub fn in_domain(case: &Case) -> bool {
     let outcome = read(case);
-    match outcome.result {
-        Ok(_) => true,
-        Err(refusal) => !matches!(refusal.number, 1..=4 | 19 | 40) && !outcome.long_fraction,
-    }
+    let asked_of_both = |refusal: &Refusal| !matches!(refusal.number, 1..=4 | 19 | 40);
+    !outcome.formerly_17 && outcome.result.as_ref().err().is_none_or(asked_of_both)
+}
+
+/// Whether the lexer reads a duration in this text that document 01's first 17 refuses.
+pub fn formerly_17(text: &str) -> bool {
+    lexer::lex(text).formerly_17
 }
 
 /// Lexing alone: questions 1, 2, 4 and 10 to 19. With it, whether the supplied Rust must give the same: not for 1, 2, 4 and
-/// 19, nor for a duration of 20 or more fractional digits.
+/// 19, nor where a duration was read that document 01's first 17 refuses.
 pub fn lexing(text: &[u8], words: usize) -> (Lexing, bool) {
     if let Err(refusal) = room(text, words) {
         return (lexing_with(Vec::new(), refusal.number, refusal.place), false);
@@ -58,13 +64,8 @@ pub fn lexing(text: &[u8], words: usize) -> (Lexing, bool) {
     };
     let lexed = lexer::lex(text);
     let records = lexed.tokens.iter().map(buffer::record).collect();
-    match lexed.end {
-        Ok(end) => (lexing_with(records, 0, end), true),
-        Err(stop) => {
-            let refusal = stop.refusal;
-            (lexing_with(records, refusal.number, refusal.place), refusal.number != 19 && !stop.long_fraction)
-        }
-    }
+    let (number, place) = lexed.end.map_or_else(|refusal| (refusal.number, refusal.place), |end| (0, end));
+    (lexing_with(records, number, place), number != 19 && !lexed.formerly_17)
 }
 
 fn lexing_with(records: Vec<[u32; cases::RECORD]>, number: u32, place: Place) -> Lexing {
@@ -76,17 +77,12 @@ fn read(case: &Case) -> Outcome<'_> {
     let mut buffer = Buffer::new(case.words);
     let (sheet, text) = match admit(case, &buffer) {
         Ok(admitted) => admitted,
-        Err(refusal) => return Outcome { buffer, result: Err(refusal), long_fraction: false },
+        Err(refusal) => return Outcome { buffer, result: Err(refusal), formerly_17: false },
     };
     let lexed = lexer::lex(text);
     buffer.write(&lexed.tokens);
-    match lexed.end {
-        Err(stop) => Outcome { buffer, result: Err(stop.refusal), long_fraction: stop.long_fraction },
-        Ok(end) => {
-            let result = Reader::new(text, lexed.tokens, end, sheet).sections();
-            Outcome { buffer, result, long_fraction: false }
-        }
-    }
+    let result = lexed.end.and_then(|end| Reader::new(text, lexed.tokens, end, sheet).sections());
+    Outcome { buffer, result, formerly_17: lexed.formerly_17 }
 }
 
 /// The questions 1 to 4, in this order.

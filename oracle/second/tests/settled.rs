@@ -124,19 +124,6 @@ fn p13_identical_rows_count_twice() {
 }
 
 #[test]
-fn p14_twenty_fractional_digits() {
-    let zeros = "0".repeat(20);
-    refused(&[(&format!("0.{zeros}s"), "17 1 1 0"), (&format!("0.{zeros}x"), "16 1 1 0")]);
-    let in_domain = |text: String| second::in_domain(&case(text.as_bytes(), ALL.as_bytes()));
-    assert!(!in_domain(format!("0.{zeros}s")));
-    assert!(!in_domain(format!("when 0.{zeros}0h")));
-    assert!(in_domain(format!("0.{zeros}x")));
-    assert!(in_domain(format!("0.{zeros}")));
-    assert!(in_domain(format!("@ 0.{zeros}s")));
-    assert!(in_domain(format!("0.{}s", "0".repeat(19))));
-}
-
-#[test]
 fn p15_the_token_too_many_is_not_read() {
     let text = "(".repeat(1_024) + "@";
     refused(&[(&text, "19 1 1025 0")]);

@@ -145,8 +145,8 @@ fn lexing_alone() {
     assert_eq!(lexing(&[b' '; 16_385], 0), ((0, 1, 0, 0), false));
     assert_eq!(lexing(b"a", 6_143), ((0, 2, 0, 0), false));
     assert_eq!(lexing(&[b'('; 1_025], 6_144), ((1_024, 19, 1, 1_025), false));
-    assert_eq!(lexing(b"0.00000000000000000000s", 6_144), ((0, 17, 1, 1), false));
-    // Nothing is read behind the first place where no character begins.
-    assert_eq!(lexing(b"a \xFF @", 6_144), ((1, 0, 1, 3), true));
-    assert_eq!(lexing(b"\"\xC3\"", 6_144), ((0, 11, 1, 1), true));
+    assert_eq!(lexing(b"0.00000000000000000000s", 6_144), ((1, 0, 1, 24), false));
+    assert_eq!(lexing(b"0.00000000000000000001s", 6_144), ((0, 18, 1, 1), false));
+    assert_eq!(lexing(b"a \xFF @", 6_144), ((0, 4, 1, 3), false));
+    assert_eq!(lexing(b"\"\xC3\"", 6_144), ((0, 4, 1, 2), false));
 }

@@ -1,36 +1,38 @@
 use borrow.Author.Needs.{needs}
 use native.Mathlib.Omega.{arith}
-use mathlib.Core.Path.{_≡_, sym, _∙_}
 use Prim.Native.Nat.{ℕ}
-use Rattle.text.proofs.Tests.{steps}
-use Rattle.tokens.specs.Duration.{wholeMs, totalMs, amount}
-use Rattle.tokens.specs.declared.duration.Total.{Total}
-use Rattle.tokens.specs.declared.duration.Total.the-variants.{Below, Over}
-use Rattle.tokens.specs.declared.duration.Amount.{Amount}
-use Rattle.tokens.specs.declared.duration.Amount.the-variants.{Refused}
-use Rattle.tokens.proofs.PowerLaws.{ten-pos, word-product}
+use Rattle.tokens.proofs.PowerLaws.{ten-pos, ten-le, word-product}
+use Rattle.tokens.proofs.AmountLaws.{by-parts, no-parts, fine-parts, judged-by}
 use Rattle.tokens.proofs.duration.duration_ms.Statement.{statement}
 use Rattle.tokens.proofs.duration.duration_ms.Tie as tie
 
--- the total is t, by the callee's contract, and the code found which it is
-below : (t : Total) (scale : ℕ) {a : Total} {n p : ℕ} {r : Amount} → a ≡ t → a ≡ Below n → p ≡ scale → r ≡ wholeMs n p → r ≡ totalMs scale t
-below t scale d e f g = rw (sym d ∙ e, ← f) g
+no-fraction : tie.Need-returns
+no-fraction c =
+    let a = c .before .before .args in
+    judged-by (a .whole) (a .frac) (a .d) (a .unit) (no-parts (a .whole) (a .frac) (a .d) (a .unit) (search needs) (c .sum-ms .ensures))
 
-over : (t : Total) (scale : ℕ) {a : Total} → a ≡ t → a ≡ Over → Refused 17 ≡ totalMs scale t
-over t scale d e = rw (sym d ∙ e)
+too-fine : tie.Need-returns-2
+too-fine c =
+    let a = c .before .before .args in
+    let small = word-product (a .frac) (a .unit) (omega arith) (omega arith) in
+    judged-by (a .whole) (a .frac) (a .d) (a .unit)
+    (fine-parts (a .whole) (a .frac) (a .d) (a .unit) (search needs) (omega (arith, small, ten-le {i = 20} {j = a .d} (omega arith))))
+
+with-fraction : tie.Need-returns-3
+with-fraction c =
+    let a = c .before .before .before .before .args in
+    judged-by (a .whole) (a .frac) (a .d) (a .unit)
+    (by-parts (a .whole) (a .frac) (a .d) (a .unit) (rw (← (c .before .power-of-ten .ensures)) (c .with-parts .ensures)))
 
 pub duration-ms-spec : {M : Type 1} → statement M
-unfolding amount
 duration-ms-spec =
     tie.close
     (tie.spec
-    (λ c. search steps)
-    (λ c. omega (arith, word-product (c .before .args .whole) (c .before .args .unit) (omega arith) (omega arith)))
-    (λ c. omega (arith, word-product (c .before .args .frac) (c .before .args .unit) (omega arith) (omega arith)))
+    (λ c. omega (arith, word-product (c .args .whole) (c .args .unit) (omega arith) (omega arith)))
+    (λ c. omega (arith, word-product (c .args .frac) (c .args .unit) (omega arith) (omega arith)))
     (λ c κs. search needs)
-    (λ c. search needs)
-    (λ c κs. search needs)
-    (λ c κs. omega (arith, ten-pos (c .before .before .before .before .before .before .args .d)))
-    (λ c. search needs)
-    (λ c. search (steps, below) depth 12)
-    (λ c. search (steps, over) depth 12))
+    no-fraction
+    too-fine
+    (λ c κs. omega (arith, ten-le {i = c .before .before .args .d} {j = 19} (omega arith)))
+    (λ c κs. omega (arith, ten-pos (c .before .before .before .args .d), c .power-of-ten .ensures))
+    with-fraction)

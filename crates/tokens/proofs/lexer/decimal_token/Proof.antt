@@ -23,7 +23,7 @@ decimal-token-spec =
     (tie.spec
     (λ c. search steps)
     (λ c. search needs)
-    (λ c κs. search needs)
+    (λ c κs. omega (arith, ten-le {i = 4 - c .before .args .count} {j = 4} (omega arith)))
     (λ c. omega (arith, part-fits (c .before .before .args .frac) _ (c .power-of-ten .ensures) (omega arith)))
     (λ c. omega (arith, part-fits (c .before .before .args .frac) _ (c .power-of-ten .ensures) (omega arith)))
     (λ c. search needs)
