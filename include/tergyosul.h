@@ -18,8 +18,27 @@
 extern "C" {
 #endif
 
-/* The least length of the words that are lent for the tokens: 1,024 records of six. With fewer the answer is refusal 2. */
-#define TERGYOSUL_TOKEN_WORDS 6144
+/*
+ * The words that are lent for the tokens get one record for each token of the text, in its order. Record i begins at word
+ * TERGYOSUL_RECORD * i, and enum tergyosul_record has the places of its words.
+ */
+#define TERGYOSUL_RECORD 5
+
+/* The least length of these words: 1,024 records. With fewer the answer is refusal 2. */
+#define TERGYOSUL_TOKEN_WORDS 5120
+
+/* The words of a record, from its first word on. */
+enum tergyosul_record {
+    TERGYOSUL_TOKEN_KIND = 0,   /* 1 word, 2 string, 3 integer, 4 time, 5 duration, 6 decimal, 7 to 22 signs */
+    TERGYOSUL_TOKEN_NUMBER = 1, /* an integer; minutes since midnight; milliseconds; a decimal times 10,000; else 0 */
+    TERGYOSUL_TOKEN_START = 2,  /* the token's first byte in the text; of a string, the one behind its quote */
+    TERGYOSUL_TOKEN_LENGTH = 3, /* how many bytes there are; of a string, inside its quotes */
+    TERGYOSUL_TOKEN_PLACE = 4   /* where its first character stands */
+};
+
+/* The line and the column of a record's place, both from 1. The word is line * 65536 + column. */
+#define TERGYOSUL_LINE(place) ((place) / 65536u)
+#define TERGYOSUL_COLUMN(place) ((place) % 65536u)
 
 /*
  * The length of an answer: nine rows of twelve words. Row 0 says how the reading went, rows 1 to 4 are the triggers and
@@ -155,8 +174,7 @@ enum tergyosul_reading {
 
 /*
  * Reads a rule text with a name sheet. The result is 0, or the number of the refusal, or TERGYOSUL_NO_ROOM. The whole answer
- * goes to answer, as above. The records of the tokens go to words, six words each: kind, number, start, length, line,
- * column; with refusals 1 to 4 these are left as they are.
+ * goes to answer, and the records of the tokens go to words, as above; with refusals 1 to 4 these are left as they are.
  */
 uint32_t tergyosul_read(const uint8_t *text, size_t text_length,
                         const uint8_t *sheet, size_t sheet_length,

@@ -195,6 +195,24 @@ static void put_condition(const uint32_t *row)
     putchar('\n');
 }
 
+/* How many tokens the rule has, and where the last one stands: the records end at the first whose kind is still 0. */
+static void put_tokens(void)
+{
+    uint32_t count = 0, place = 0;
+
+    while (count < TERGYOSUL_TOKEN_WORDS / TERGYOSUL_RECORD) {
+        const uint32_t *record = words + TERGYOSUL_RECORD * count;
+
+        if (record[TERGYOSUL_TOKEN_KIND] == 0) {
+            break;
+        }
+        place = record[TERGYOSUL_TOKEN_PLACE];
+        count++;
+    }
+    printf("tokens: %lu, the last at line %lu, column %lu\n", (unsigned long)count, (unsigned long)TERGYOSUL_LINE(place),
+           (unsigned long)TERGYOSUL_COLUMN(place));
+}
+
 int main(int count, char **arguments)
 {
     size_t text_length, sheet_length;
@@ -225,5 +243,6 @@ int main(int count, char **arguments)
     for (i = 0; i < answer[5]; i++) {
         put_condition(answer + TERGYOSUL_ROW * (5 + i));
     }
+    put_tokens();
     return 0;
 }

@@ -39,24 +39,26 @@ mod refusal;
 mod rule;
 #[cfg(test)]
 mod tests;
+mod token;
 
 pub use refusal::Refusal;
 pub use rule::{
     Aggregate, Comparison, Condition, Crossing, Event, Hcl, InputRef, LightTarget, Name, Occupancy, Online, Operand,
     Override, Power, Reading, Ref, Rule, Selector, SolarEvent, Sun, TimeBound, Trigger, Value,
 };
+pub use token::{tokens, Token, RECORD_WORDS};
 
-/// How many words a caller lends for the tokens of a text, at least: 1,024 records of six. With fewer [`read`] and [`lex`]
-/// give refusal 2.
-pub const TOKEN_WORDS: usize = 6_144;
+/// How many words a caller lends for the tokens of a text, at least: 1,024 records. With fewer [`read`] and [`lex`] give
+/// refusal 2.
+pub const TOKEN_WORDS: usize = 1_024 * RECORD_WORDS;
 
 /// The length of an answer of the library's `tergyosul_lex`.
 const LEX_WORDS: usize = 4;
 
 /// Reads a rule text with a name sheet.
 ///
-/// The records of the tokens go to `words`, six each (kind, number, start, length, line, column); with refusals 1 to 4 these
-/// are left as they are. What the words hold before plays no part.
+/// The records of the tokens go to `words`, from which [`tokens`] takes them; with refusals 1 to 4 these are left as they are.
+/// What the words hold before plays no part.
 ///
 /// # Panics
 ///
@@ -72,6 +74,14 @@ pub fn read(text: &[u8], sheet: &[u8], words: &mut [u32]) -> Result<Rule, Refusa
 /// Lexes a text alone, and gives the count of its tokens. Their records go to `words`, as [`read`] writes them.
 ///
 /// Questions 1, 2 and 4 are asked first, as [`read`] asks them; with these refusals `words` is left as it is. Then 10 to 19.
+///
+/// ```
+/// let mut words = [0; tergyosul::TOKEN_WORDS];
+/// let count = tergyosul::lex(b"when\n  every 5s", &mut words)?;
+/// let last = tergyosul::tokens(&words).take(count).last().expect("there are three");
+/// assert_eq!((last.line(), last.column(), last.number), (2, 9, 5_000));
+/// # Ok::<(), tergyosul::Refusal>(())
+/// ```
 pub fn lex(text: &[u8], words: &mut [u32]) -> Result<usize, Refusal> {
     let mut answer = [0; LEX_WORDS];
     with_room(boundary::lex(text, words, &mut answer))?;

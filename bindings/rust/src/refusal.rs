@@ -21,7 +21,7 @@ impl Refusal {
     pub const fn meaning(&self) -> &'static str {
         match self.number {
             1 => "the text has more than 16384 bytes",
-            2 => "fewer than 6144 words were lent for the tokens",
+            2 => "fewer than 5120 words were lent for the tokens",
             3 => "the sheet is not well formed",
             4 => "the text is not UTF-8",
             10 => "no token begins here",

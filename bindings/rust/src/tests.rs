@@ -1,7 +1,7 @@
 //! Every kind, code and choice of the layout, by calls of the library: the words of the answer, and the value they become.
 
 use crate::rule::*;
-use crate::{boundary, layout, lex, read, with_room, Refusal, LEX_WORDS, TOKEN_WORDS};
+use crate::{boundary, layout, lex, read, tokens, with_room, Refusal, Token, LEX_WORDS, RECORD_WORDS, TOKEN_WORDS};
 use std::format;
 use std::string::{String, ToString};
 use std::vec::Vec;
@@ -485,6 +485,7 @@ fn the_lengths_are_the_headers() {
         let line = HEADER.lines().find_map(|line| line.strip_prefix(&format!("#define TERGYOSUL_{name} ")));
         line.expect("the header has it").trim_end_matches('u').parse().expect("it is a number")
     };
+    assert_eq!(defined("RECORD"), RECORD_WORDS as u32);
     assert_eq!(defined("TOKEN_WORDS"), TOKEN_WORDS as u32);
     assert_eq!(defined("ANSWER_WORDS"), layout::ANSWER_WORDS as u32);
     assert_eq!(defined("LEX_WORDS"), LEX_WORDS as u32);
@@ -502,9 +503,41 @@ fn a_longer_answer_keeps_its_end() {
 fn lexing_alone() {
     let mut words = [9; TOKEN_WORDS];
     assert_eq!(lex(b"when 5s", &mut words), Ok(2));
-    assert_eq!(words[..13], [1, 0, 0, 4, 1, 1, 5, 5_000, 5, 2, 1, 6, 9]);
+    assert_eq!(words[..11], [1, 0, 0, 4, 65_537, 5, 5_000, 5, 2, 65_542, 9]);
     assert_eq!(lex(b"when @", &mut words), Err(Refusal { number: 10, line: 1, column: 6, detail: 0 }));
     assert_eq!(lex(b"", &mut []), Err(Refusal { number: 2, line: 0, column: 0, detail: 0 }));
+}
+
+/// Each word of a record is where the header's constant says, and a token has the same.
+#[test]
+fn a_token_is_its_record() {
+    let text = "\n \"Käse\" 7:05 1.5".as_bytes();
+    let mut words = [9; TOKEN_WORDS];
+    assert_eq!(lex(text, &mut words), Ok(3));
+    let shown = |t: Token| (t.kind, t.number, t.bytes.of(text).unwrap_or_default(), t.line(), t.column());
+    let read: Vec<_> = tokens(&words).take(3).map(shown).collect();
+    let expected = [(2, 0, "Käse".as_bytes(), 2, 2), (4, 425, b"7:05", 2, 9), (6, 15_000, b"1.5", 2, 14)];
+    assert_eq!(read, expected);
+    assert_eq!((tokens(&words).count(), tokens(&words[..4]).count()), (1_024, 0));
+
+    let at = constants("tergyosul_record");
+    let record: Vec<(String, u32)> = at.iter().map(|(name, k)| (name.clone(), words[RECORD_WORDS + *k as usize])).collect();
+    let named = [("KIND", 4), ("NUMBER", 425), ("START", 10), ("LENGTH", 4), ("PLACE", 2 * 65_536 + 9)];
+    assert_eq!(record, named.map(|(name, word)| (format!("TOKEN_{name}"), word)));
+}
+
+/// The last places that a text can have, in a line and down the lines, for a token and for the end.
+#[test]
+fn the_farthest_places() {
+    let mut words = [9; TOKEN_WORDS];
+    for (byte, token, end) in [(b' ', (1, 16_384), (1, 16_385)), (b'\n', (16_384, 1), (16_385, 1))] {
+        let mut text = [byte; 16_384];
+        assert_eq!(read(&text, SHEET, &mut words).map_err(|r| (r.number, r.line, r.column)), Err((38, end.0, end.1)));
+        text[16_383] = b'(';
+        assert_eq!(lex(&text, &mut words), Ok(1));
+        let found = tokens(&words).next().expect("there is one");
+        assert_eq!((found.line(), found.column()), token);
+    }
 }
 
 #[test]

@@ -9,7 +9,6 @@ use std::{fs, str};
 
 /// What every word holds before a call.
 const UNTOUCHED: u32 = u32::MAX;
-const RECORD: usize = 6;
 
 struct Case<'a> {
     id: &'a str,
@@ -44,20 +43,19 @@ fn cases(mut input: &[u8]) -> Vec<Case<'_>> {
     cases
 }
 
+/// The tokens whose records a call wrote.
+fn written(words: &[u32]) -> impl Iterator<Item = tergyosul::Token> + '_ {
+    tergyosul::tokens(words).take_while(|token| token.kind != UNTOUCHED)
+}
+
 /// The answer to a case, in the replay format.
 fn answer(case: &Case) -> String {
     let mut words = vec![UNTOUCHED; case.words];
     let read = tergyosul::read(case.text, case.sheet, &mut words);
     let mut out = format!("case {}\n", case.id);
-    let records = words.chunks_exact(RECORD).take_while(|record| record[0] != UNTOUCHED);
-    let mut used = 0;
-    for record in records {
-        used += RECORD;
-        out += "token";
-        record.iter().for_each(|word| write!(out, " {word}").unwrap());
-        out += "\n";
-    }
-    let kept = words[used..].iter().all(|&word| word == UNTOUCHED);
+    let tokens: Vec<_> = written(&words).collect();
+    tokens.iter().for_each(|token| out += &shown::token(token));
+    let kept = words[tokens.len() * tergyosul::RECORD_WORDS..].iter().all(|&word| word == UNTOUCHED);
     out += if kept { "buffer kept\n" } else { "buffer changed\n" };
     match read {
         Err(r) => writeln!(out, "refused {} {} {} {}", r.number, r.line, r.column, r.detail).unwrap(),
@@ -83,7 +81,7 @@ fn every_stored_answer_is_given() {
     let input = stored("stdin");
     let output = String::from_utf8(stored("stdout")).expect("the answers are UTF-8");
     let (cases, answers) = (cases(&input), answers(&output));
-    assert!(cases.len() >= 366);
+    assert!(cases.len() >= 443);
     assert_eq!(cases.len(), answers.len());
     for (case, expected) in cases.iter().zip(&answers) {
         assert_eq!(answer(case), *expected, "case {}", case.id);
@@ -102,10 +100,7 @@ fn lexing_agrees() {
         match read {
             Err(refusal) if refusal.number == 3 => continue,
             Err(refusal) if refusal.number < 20 => assert_eq!(lexed, Err(refusal), "case {}", case.id),
-            _ => {
-                let count = words.chunks_exact(RECORD).take_while(|record| record[0] != UNTOUCHED).count();
-                assert_eq!(lexed, Ok(count), "case {}", case.id);
-            }
+            _ => assert_eq!(lexed, Ok(written(&words).count()), "case {}", case.id),
         }
         assert_eq!(words, lexed_words, "case {}", case.id);
     }

@@ -11,4 +11,5 @@ pub mod RangeLaws
 pub mod FuelLaws
 pub mod Theorem
 pub mod HoldsLaws
+pub mod FormerLaws
 pub mod Pairs

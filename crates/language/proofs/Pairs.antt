@@ -23,7 +23,7 @@ use Rattle.text.specs.Split.{split}
 use Rattle.text.specs.Find.{firstAt}
 use Rattle.tokens.specs.Cursor.{bytesOf, tokens, isWord, isKind, takeKind, takeWord, takeIn, toTaken, accepted}
 use Rattle.tokens.specs.Duration.{unitOf, boundedMs, wholeMs, amount}
-use Rattle.tokens.specs.Lex.{recordOf, lexFrom, lexText, answerFrom, writtenFrom, lexAnswer, lexWords}
+use Rattle.tokens.specs.Lex.{recordOf, lexFrom, lexText, answerFrom, writtenFrom, lexAnswer, lexWords, leastWords}
 use Rattle.tokens.specs.Ended.{recordWords, tokenLine, tokenColumn}
 use Rattle.tokens.specs.Record.{capacity, wordsOf, written, wordAt, kindAt, numberAt, startAt, lengthAt, lineAt, columnAt, bytesAt}
 use Rattle.tokens.specs.Scan.{isPlain, passed, triviaMode, trivia, quoted, withDigit, digits}
@@ -67,7 +67,7 @@ S =
     (line "adapter,0"
     (line "adapter,1" (line "lamp,0,4,Aisle" (line "lamp,1,4,Aisle" (line "lamp,1,7,Till" [])))))
 
--- a buffer of 6,144 words
+-- a buffer of so many words
 zeros : ℕ → List ℕ
 zeros zero = []
 zeros (suc n) = 0 ∷ zeros n
@@ -100,7 +100,7 @@ table =
 
 abbrev Holds : List Row → Type 0
 Holds [] = Unit {0}
-Holds (r ∷ rs) = (readOf (ascii (r .text)) S (zeros 6144) .answer ≡ r .answer) × Holds rs
+Holds (r ∷ rs) = (readOf (ascii (r .text)) S (zeros leastWords) .answer ≡ r .answer) × Holds rs
 
 pairs : Holds table
 unfolding indexOf indexAfter table _⇒_ line S zeros one on counted lineFeeds sinceLineFeed lineAfter columnAfter after stepOf walked judge checkOf isAscii sequenceLength isTail isSecond two three four sized front decodeAt charsFrom chars rowEnd whiteSpace among isWhite partOf sameBytes isDigit isAlpha isWordStart isWordPart split firstAt bytesOf tokens isWord isKind takeKind takeWord takeIn toTaken accepted unitOf boundedMs wholeMs amount recordOf lexFrom lexText answerFrom writtenFrom lexAnswer lexWords recordWords tokenLine tokenColumn capacity wordsOf written wordAt kindAt numberAt startAt lengthAt lineAt columnAt bytesAt isPlain passed triviaMode trivia quoted withDigit digits singleKind pairKind single punct string timeBy time decimal amountTo durationBy duration fractionAt fraction point tokens-numberAt number word tokenAt wordsIn position choiceBy choiceAt takeWords phraseAt headOf eitherAt pointChoice phraseChoice pointPhrase kindOf mostOf field rest hasComma digitsOn numeral isMark plain isName checkedRow readRow primaryOf adapterOf lineBy lineOf nameOf mayFollow followingCheck isPrimary linesCheck sheetCheck entries isListing lists primaryLine settingsOf viewOf isCandidate candidates isIn inScope elsewhere noneOf chosen pickNamed checkedName closedName quotedName nameOrId adapterNumber adapterAssign adapterClause scopeOrPrimary foundAt referred closeR openR reference lampRef groupRef deviceRef devName inputDeviceRef lampTarget groupTarget lightTarget toIndex toName toScope toRef toTarget slotOf isNamed keySlot namedSlot unnamedSlot slotAt typeWord inputTypeValue deviceItem instanceItem groupItem typeItem adapterItem itemAt isDev isNumber put noArgs argAt countWith argsFrom deviceInstance withInst withDev withGroup selected closeArgs inputSelector oneInstance inputRef toItem toArgs toSelector toInput slot lastShortAddress lastGroup lastScene lastLevel lastInstance lastInstanceGroup lastInstanceType lastEventInformation padded triggersOf conditionsOf acceptedWith refusedWith rangeOf namedPhrase targetFor propertyWord signed mostOffset offsetBound offsetAt withOffset solarEvent solarAt timeBound lampProperty lampReading groupProperty groupReading inputProperty inputReading timeProperty timeReading sunProperty sunReading eventProperty eventReading varReading readingBy readingAt literalAt deltaAt withDelta readValue valueAt powerOf crossingOf occupancyOf aggregateOf onlineOf overrideOf timerTrigger ruleTrigger controllerChange controllerTrigger httpTrigger everyTrigger atBound atTrigger sceneClosed sceneTrigger deviceTrigger groupTrigger hclTrigger levelCross lampChange lampTrigger inputDeviceChange inputDeviceTrigger rawData rawEvent eventOf eventAt inputEvent inputBecomes lightCross positionChange propertyTrigger pointTrigger inputChange inputTrigger triggerBy triggerAt comparisonBy comparisonAt controllerCondition timerCondition ruleCondition lastFiredCondition deviceCondition sunOf sunCondition timeTo timeCondition groupCondition hclOf hclCondition lampPropertyOf lampJudged lampCompared lampPoint lampState lampCondition lightThan inputState inputCondition textOperand operandAt varCompared varCondition conditionBy conditionAt repeated whenSection ifSection atEnd ruleAt parsed ruleOf lexedFrom byText bySheet seen readOf

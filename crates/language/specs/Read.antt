@@ -55,7 +55,7 @@ bySheet text view words (Sheet.BadLine n) = record { answer = refusedWith 3 n 0 
 unfoldable pub seen : List ℕ → View
 seen sheet = viewOf (settingsOf sheet) sheet
 
--- "Text at most 16,384 bytes? 1. Token buffer at least 6,144 words of 32 bits? 2."
+-- "Text at most 16,384 bytes? 1." and, by document 02, §5, "the buffer at least 5,120 (question 2)"
 unfoldable pub readOf : List ℕ → List ℕ → List ℕ → Outcome
 readOf text sheet words =
     pick (ltb mostBytes (length text)) (record { answer = refusedWith 1 0 0 0; buffer = words })

@@ -29,6 +29,7 @@ use Rattle.sheet.specs.declared.rows.Sheet.{Sheet}
 use Rattle.language.specs.Range.{rangeOf}
 use Rattle.language.specs.Section.{Lists, ruleAt}
 use Rattle.tokens.specs.Ended.{Ended, recordWords, tokenLine, tokenColumn}
+use Rattle.tokens.specs.Placed.{All-in-word}
 use Rattle.model.specs.Lists.{triggersOf, conditionsOf, acceptedWith, refusedWith}
 use Rattle.language.specs.Read.{parsed, ruleOf, lexedFrom, byText, bySheet, Outcome, seen, readOf}
 use Rattle.language.specs.Demand.{Exact}
@@ -42,11 +43,12 @@ use Rattle.reader.specs.Parts.{toRule, placed, answered}
 use Rattle.reader.specs.declared.parts.Rule.{Rule}
 use Rattle.reader.proofs.RuleLaws.{one-answer}
 use Rattle.tokens.proofs.BufferLaws.{buffer-size, records-count, line-in, column-in, end-line, end-column, line-past, column-past, answer-ended, Refused-at, answer-refused, buffer-records}
+use Rattle.tokens.proofs.PlacedLaws.{all-in-word}
 
 -- the place in the records is the token's or the end's
-placed-parsed : {l : Lexing} {n : ℕ} → Ended l n → (r : Refusal) → placed (recordWords l) (end-line l) (end-column l) r ≡ parsed l (no r)
+placed-parsed : {l : Lexing} {n : ℕ} → All-in-word l → Ended l n → (r : Refusal) → placed (recordWords l) (end-line l) (end-column l) r ≡ parsed l (no r)
 unfolding placed parsed
-placed-parsed {l} {n} e r = by (ltb (r .token) (capacity (recordWords l))) refl
+placed-parsed {l} {n} kept e r = by (ltb (r .token) (capacity (recordWords l))) refl
   where
     by : (b : Bool) → ltb (r .token) (capacity (recordWords l)) ≡ b →
         pick b (refusedWith (r .number) (lineAt (recordWords l) (r .token)) (columnAt (recordWords l) (r .token)) (r .detail))
@@ -54,15 +56,15 @@ placed-parsed {l} {n} e r = by (ltb (r .token) (capacity (recordWords l))) refl
         refusedWith (r .number) (tokenLine l (r .token)) (tokenColumn l (r .token)) (r .detail)
     by true h =
         let inside : r .token < n = let c = records-count e in let p = ltb-true (r .token) (capacity (recordWords l)) h in omega arith in
-        rw (line-in e (r .token) inside, column-in e (r .token) inside)
+        rw (line-in kept e (r .token) inside, column-in kept e (r .token) inside)
     by false h =
         let past : n ≤ r .token = let c = records-count e in let p = ltb-false (r .token) (capacity (recordWords l)) h in omega arith in
         rw (line-past e (r .token) past, column-past e (r .token) past)
 
-answered-parsed : {l : Lexing} {n : ℕ} → Ended l n → (m : Res Lists) → answered (recordWords l) (end-line l) (end-column l) m ≡ parsed l m
+answered-parsed : {l : Lexing} {n : ℕ} → All-in-word l → Ended l n → (m : Res Lists) → answered (recordWords l) (end-line l) (end-column l) m ≡ parsed l m
 unfolding answered parsed
-answered-parsed e (ok lists i) = refl
-answered-parsed e (no r) = placed-parsed e r
+answered-parsed kept e (ok lists i) = refl
+answered-parsed kept e (no r) = placed-parsed kept e r
 
 -- questions 1 and 2 are passed
 abbrev pub Asked : List ℕ → List ℕ → Type 0
@@ -94,7 +96,7 @@ module _ (text : List ℕ) (view : View) (words : List ℕ) (short : length text
       let fits : n * recordSize ≤ length words = let f = few text (a .1) in omega arith in
       let records : take (count * recordSize) (writtenFrom 0 words (lexText text)) ≡ recordWords (lexText text) =
       rw (← same) (buffer-records words (a .1) fits) in
-      rw (records, a .3, a .4) (answered-parsed (a .1) (ruleOf text (recordWords (lexText text)) view)) ∙
+      rw (records, a .3, a .4) (answered-parsed (all-in-word text short) (a .1) (ruleOf text (recordWords (lexText text)) view)) ∙
       sym (lexed-complete text view (lexText text) (a .1))
 
   answer-by : (x : Checked) → lexedBy text view (wordsBy text words x) (answerBy text x) ≡ byText text view words x .answer

@@ -39,7 +39,7 @@ fn accepted(text: &[u8], sheet: &[u8], answer: &[u32]) {
 
 // Reads the rule and says what came of it.
 fn answered(text: &[u8], sheet: &[u8], text_name: &[u8], sheet_name: &[u8]) {
-    let mut words = [0u32; 6144];
+    let mut words = [0u32; tokens::lexer::LEAST_WORDS];
     let mut answer = [0u32; 108];
     if reading::read(text, sheet, &mut words, &mut answer) == 0 {
         accepted(text, sheet, &answer);

@@ -136,7 +136,7 @@ pub fn show(text: &[u8], sheet: &[u8], words: &[u32], f: Fault) {
     let list =
         b"\"x\" 1 12:00 1s when if and timer rule controller http every at scene device group hcl lamp input last_fired sun time var event sunrise sunset fires fails starts becomes active trigger recalled goes offline comes online any_on all_off override clears for broadcast turns on off crosses above below power cycled manual config changed changes is press release short_press double_press long_press_start long_press_repeat long_press_stop button_free button_stuck movement no_movement any_event occupied vacant running enabled overridden older than up down in level cct is_on last_level member_count light position last_event_age now hour minute weekday rise set is_up value instance option button absolute occupancy dev= inst= group= type= adapter= data= ( ) , . .. = == != >= <= > < + -";
     let mut trial = [0u8; 20000];
-    let mut trial_words = [0u32; 6144];
+    let mut trial_words = [0u32; tokens::lexer::LEAST_WORDS];
     let mut marks = [0u8; 128];
     let start = trial::bytes(&mut trial, 0, text::part::part(text, 0, f.at));
     mark(

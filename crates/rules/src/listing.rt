@@ -44,7 +44,7 @@ fn accepted(text: &[u8], words: &[u32], answer: &[u32]) {
 
 // The tokens of the text, or the refusal of lexing, which no sheet plays a part in.
 fn answered(text: &[u8], name: &[u8]) {
-    let mut words = [0u32; 6144];
+    let mut words = [0u32; tokens::lexer::LEAST_WORDS];
     let mut answer = [0u32; 4];
     if reading::lex(text, &mut words, &mut answer) != 0 {
         diagnose::show(text, b"", &mut words, &answer, name, name);

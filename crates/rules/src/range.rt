@@ -17,7 +17,7 @@ fn put(trial: &mut [u8], text: &[u8], from: usize, behind: usize, number: &[u8])
 // Does the reader take a number at the place?
 fn is_in_range(text: &[u8], sheet: &[u8], f: Fault, behind: usize, number: &[u8]) -> bool {
     let mut trial = [0u8; 20000];
-    let mut words = [0u32; 6144];
+    let mut words = [0u32; tokens::lexer::LEAST_WORDS];
     let mut answer = [0u32; 108];
     let at = put(&mut trial, text, f.at, behind, number);
     reading::read(

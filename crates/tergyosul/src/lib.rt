@@ -61,7 +61,7 @@ pub extern "C" fn tergyosul_lex(text: &[u8], words: &mut [u32], answer: &mut [u3
 }
 
 // Reads a rule text with a name sheet. The result is 0, or the number of the refusal; answer gets the whole answer. If it has no room for
-// that, nothing is read or written, and the result is NO_ROOM. The words are lent for the records of the tokens: at least 6,144.
+// that, nothing is read or written, and the result is NO_ROOM. The words are lent for the records of the tokens: at least 5,120.
 #[no_mangle]
 pub extern "C" fn tergyosul_read(
     text: &[u8],

@@ -1,6 +1,6 @@
 -- Lexings that come to the end of their text: limits on the number of tokens, the records' size, the places in them, and the words that lexing
 -- leaves and answers.
-use Prim.Native.Nat.{ℕ, zero, suc, _+_, _*_, _/_, _<_, _≤_}
+use Prim.Native.Nat.{ℕ, zero, suc, _+_, _*_, _/_, _%_, _<_, _≤_}
 use native.Mathlib.Omega.{arith}
 use native.Mathlib.Decide.{decLt}
 use native.Mathlib.Nat.{zero-add, add-zero}
@@ -15,7 +15,7 @@ use Rattle.text.specs.declared.place.Place.{Place}
 use Rattle.text.specs.declared.place.Step.{Step}
 use Rattle.text.specs.declared.place.Step.the-variants.{Next, Stop}
 use Rattle.text.proofs.Tests.{picked}
-use Rattle.tokens.specs.Record.{capacity, wordsOf, written, wordAt, kindAt, lineAt, columnAt}
+use Rattle.tokens.specs.Record.{recordSize, capacity, placeUnit, wordsOf, written, wordAt, kindAt, lineAt, columnAt}
 use Rattle.tokens.specs.Cursor.{tokens}
 use Rattle.tokens.specs.Lex.{recordOf, Lexing, ended, refused, token, lexText, answerFrom, writtenFrom, lexeme, lexAt, lexNoMore, behind as past-trivia, lexFrom}
 use Rattle.tokens.specs.Layout.{Laid, Lexical, no-token, unterminated, too-large, no-time, places, no-unit, long, fine, too-many}
@@ -23,9 +23,11 @@ use Rattle.tokens.specs.declared.record.Record.{Record}
 use Rattle.tokens.specs.declared.lexer.Lexed.{Lexed}
 use Rattle.tokens.specs.declared.lexer.Lexed.the-variants.{Tokens, Refused}
 use Rattle.tokens.specs.Ended.{Ended, at-end, behind, recordWords, tokenLine, tokenColumn}
+use Rattle.tokens.specs.Placed.{Each, All-in-word}
 use Rattle.tokens.specs.Token.{look, tokenAt}
 use Rattle.tokens.specs.declared.lexer.Lexeme.{Lexeme}
 use Rattle.tokens.specs.declared.lexer.Lexeme.the-variants.{Token}
+use Rattle.tokens.proofs.RecordLaws.{place-kept}
 use Rattle.tokens.proofs.LayoutLaws.{laid}
 use Rattle.tokens.proofs.SpelledLaws.{kind-some}
 
@@ -108,8 +110,8 @@ lexical too-many e = omega arith
 
 -- ---- the records
 
--- the records of n tokens are 6 n words
-pub records-size : {l : Lexing} {n : ℕ} → Ended l n → length (recordWords l) ≡ n * 6
+-- the records of n tokens are so many words
+pub records-size : {l : Lexing} {n : ℕ} → Ended l n → length (recordWords l) ≡ n * recordSize
 unfolding recordWords wordsOf
 records-size at-end = omega arith
 records-size (behind e) = let s = records-size e in omega arith
@@ -119,7 +121,7 @@ unfolding capacity
 records-count e = let s = records-size e in omega arith
 
 -- two tests that hold alike are the same
-same-test : (a b c d : ℕ) → (a < b → c < d) → (b ≤ a → d ≤ c) → ltb c d ≡ ltb a b
+pub same-test : (a b c d : ℕ) → (a < b → c < d) → (b ≤ a → d ≤ c) → ltb c d ≡ ltb a b
 same-test a b c d f g = by (decLt a b)
   where
     by : Dec (a < b) → ltb c d ≡ ltb a b
@@ -130,27 +132,31 @@ same-test a b c d f g = by (decLt a b)
 pub first-word : (r : Record) (words : List ℕ) (k : ℕ) → wordAt (wordsOf r ++ words) 0 k ≡ getD (wordsOf r ++ words) k 0
 unfolding wordAt capacity wordsOf
 first-word r words k =
-    rw (lt-ltb 0 (length (wordsOf r ++ words) / 6) (omega arith), zero-add k)
+    rw (lt-ltb 0 (length (wordsOf r ++ words) / recordSize) (omega arith), zero-add k)
 
 pub next-word : (r : Record) (words : List ℕ) (i k : ℕ) → wordAt (wordsOf r ++ words) (suc i) k ≡ wordAt words i k
 unfolding wordAt capacity wordsOf
 next-word r words i k =
-    let at : suc i * 6 + k ≡ suc (suc (suc (suc (suc (suc (i * 6 + k)))))) = omega arith in
-    let inside = same-test i (length words / 6) (suc i) (length (wordsOf r ++ words) / 6) (λ h. omega arith) (λ h. omega arith) in
+    let at : suc i * recordSize + k ≡ suc (suc (suc (suc (suc (i * recordSize + k))))) = omega arith in
+    let inside = same-test i (length words / recordSize) (suc i) (length (wordsOf r ++ words) / recordSize) (λ h. omega arith) (λ h. omega arith) in
     rw (inside, at)
 
--- the place of a token is in its record
-pub line-in : {l : Lexing} {n : ℕ} (e : Ended l n) (i : ℕ) → i < n → lineAt (recordWords l) i ≡ tokenLine l i
+-- the place of a token is in its record, if a word holds it
+pub line-in : {l : Lexing} {n : ℕ} → All-in-word l → (e : Ended l n) (i : ℕ) → i < n → lineAt (recordWords l) i ≡ tokenLine l i
 unfolding recordWords lineAt tokenLine wordsOf
-line-in at-end i h = absurd (omega arith)
-line-in (behind {r} {l} e) zero h = first-word r (recordWords l) 4
-line-in (behind {r} {l} e) (suc i) h = next-word r (recordWords l) i 4 ∙ line-in e i (omega arith)
+line-in a at-end i h = absurd (omega arith)
+line-in (Each.at-token p a) (behind {r} {l} e) zero h =
+    ap (λ (w : ℕ). w / placeUnit) (first-word r (recordWords l) 4) ∙ place-kept (r .line) (r .column) (p .line-below) (p .column-below) .1
+line-in (Each.at-token p a) (behind {r} {l} e) (suc i) h =
+    ap (λ (w : ℕ). w / placeUnit) (next-word r (recordWords l) i 4) ∙ line-in a e i (omega arith)
 
-pub column-in : {l : Lexing} {n : ℕ} (e : Ended l n) (i : ℕ) → i < n → columnAt (recordWords l) i ≡ tokenColumn l i
+pub column-in : {l : Lexing} {n : ℕ} → All-in-word l → (e : Ended l n) (i : ℕ) → i < n → columnAt (recordWords l) i ≡ tokenColumn l i
 unfolding recordWords columnAt tokenColumn wordsOf
-column-in at-end i h = absurd (omega arith)
-column-in (behind {r} {l} e) zero h = first-word r (recordWords l) 5
-column-in (behind {r} {l} e) (suc i) h = next-word r (recordWords l) i 5 ∙ column-in e i (omega arith)
+column-in a at-end i h = absurd (omega arith)
+column-in (Each.at-token p a) (behind {r} {l} e) zero h =
+    ap (λ (w : ℕ). w % placeUnit) (first-word r (recordWords l) 4) ∙ place-kept (r .line) (r .column) (p .line-below) (p .column-below) .2
+column-in (Each.at-token p a) (behind {r} {l} e) (suc i) h =
+    ap (λ (w : ℕ). w % placeUnit) (next-word r (recordWords l) i 4) ∙ column-in a e i (omega arith)
 
 -- the place at which lexing ends
 abbrev pub end-line : Lexing → ℕ
@@ -221,7 +227,7 @@ answer-refused k (token r l) e = answer-refused (k + 1) l e
 pub written-size : (words : List ℕ) (i : ℕ) (r : Record) → length (written words i r) ≡ length words
 unfolding written
 written-size words i r =
-    picked (λ (ws : List ℕ). length ws ≡ length words) (ltb i (capacity words)) (λ h. length-sets words (i * 6) (wordsOf r)) (λ h. refl)
+    picked (λ (ws : List ℕ). length ws ≡ length words) (ltb i (capacity words)) (λ h. length-sets words (i * recordSize) (wordsOf r)) (λ h. refl)
 
 buffer-size-from : (i : ℕ) (words : List ℕ) (l : Lexing) → length (writtenFrom i words l) ≡ length words
 unfolding writtenFrom
@@ -234,36 +240,36 @@ pub buffer-size : (words : List ℕ) (l : Lexing) → length (writtenFrom 0 word
 buffer-size words l = buffer-size-from 0 words l
 
 -- where there is room, the words before a record stay, and behind them stands the record
-pub written-front : (words : List ℕ) (i : ℕ) (r : Record) → (i + 1) * 6 ≤ length words →
-    take ((i + 1) * 6) (written words i r) ≡ take (i * 6) words ++ wordsOf r
+pub written-front : (words : List ℕ) (i : ℕ) (r : Record) → (i + 1) * recordSize ≤ length words →
+    take ((i + 1) * recordSize) (written words i r) ≡ take (i * recordSize) words ++ wordsOf r
 unfolding written capacity wordsOf
 written-front words i r h =
-    let front = take (i * 6) words ++ wordsOf r in
-    let rest = drop (i * 6 + 6) words in
-    let a = length-append (take (i * 6) words) (wordsOf r) in
-    let b = length-take-le (i * 6) words (omega arith) in
-    let size : length front ≡ (i + 1) * 6 = omega arith in
-    rw (lt-ltb i (length words / 6) (omega arith))
-    (ap (λ (ws : List ℕ). take ((i + 1) * 6) ws) (sets-eq (wordsOf r) words (i * 6) (omega arith)) ∙ take-at front rest ((i + 1) * 6) size)
+    let front = take (i * recordSize) words ++ wordsOf r in
+    let rest = drop (i * recordSize + recordSize) words in
+    let a = length-append (take (i * recordSize) words) (wordsOf r) in
+    let b = length-take-le (i * recordSize) words (omega arith) in
+    let size : length front ≡ (i + 1) * recordSize = omega arith in
+    rw (lt-ltb i (length words / recordSize) (omega arith))
+    (ap (λ (ws : List ℕ). take ((i + 1) * recordSize) ws) (sets-eq (wordsOf r) words (i * recordSize) (omega arith)) ∙ take-at front rest ((i + 1) * recordSize) size)
 
 -- from an index on: the words before it stay, and behind them stand the records
-records-from : {l : Lexing} {n : ℕ} (i : ℕ) (words : List ℕ) → Ended l n → (i + n) * 6 ≤ length words →
-    take ((i + n) * 6) (writtenFrom i words l) ≡ take (i * 6) words ++ recordWords l
+records-from : {l : Lexing} {n : ℕ} (i : ℕ) (words : List ℕ) → Ended l n → (i + n) * recordSize ≤ length words →
+    take ((i + n) * recordSize) (writtenFrom i words l) ≡ take (i * recordSize) words ++ recordWords l
 unfolding writtenFrom recordWords
-records-from i words at-end h = rw (add-zero i, append-nil (take (i * 6) words))
+records-from i words at-end h = rw (add-zero i, append-nil (take (i * recordSize) words))
 records-from i words (behind {r} {l} {count} e) h =
     let size = written-size words i r in
     let at : i + suc count ≡ i + 1 + count = omega arith in
-    ap (λ (k : ℕ). take (k * 6) (writtenFrom (i + 1) (written words i r) l)) at
+    ap (λ (k : ℕ). take (k * recordSize) (writtenFrom (i + 1) (written words i r) l)) at
     ∙ records-from (i + 1) (written words i r) e (omega arith)
     ∙ ap (λ (ws : List ℕ). ws ++ recordWords l) (written-front words i r (omega arith))
-    ∙ append-assoc (take (i * 6) words) (wordsOf r) (recordWords l)
+    ∙ append-assoc (take (i * recordSize) words) (wordsOf r) (recordWords l)
 
 -- the words that are written are the records, one after the other
-pub buffer-records : {l : Lexing} {n : ℕ} (words : List ℕ) → Ended l n → n * 6 ≤ length words →
-    take (n * 6) (writtenFrom 0 words l) ≡ recordWords l
+pub buffer-records : {l : Lexing} {n : ℕ} (words : List ℕ) → Ended l n → n * recordSize ≤ length words →
+    take (n * recordSize) (writtenFrom 0 words l) ≡ recordWords l
 buffer-records {l} {n} words e h =
-    ap (λ (k : ℕ). take (k * 6) (writtenFrom 0 words l)) (sym (zero-add n)) ∙ records-from 0 words e (omega arith)
+    ap (λ (k : ℕ). take (k * recordSize) (writtenFrom 0 words l)) (sym (zero-add n)) ∙ records-from 0 words e (omega arith)
 
 -- kinds of tokens are above 0
 kinds-some : {s : List ℕ} {before : List Character} {l : Lexing} {n : ℕ} → Laid s before l → Ended l n → (i : ℕ) → i < n →

@@ -12,7 +12,7 @@ use Rattle.text.specs.declared.place.Step.the-variants.{Next, Stop}
 use Rattle.text.proofs.StepLaws.{Stepped, Stopped}
 use Rattle.text.proofs.PlaceRules.{line-walked, column-walked}
 use Rattle.tokens.specs.Token.{look, tokenAt}
-use Rattle.tokens.specs.Lex.{Lexing, ended, refused, token, recordOf, lexeme, lexAt, lexNoMore, behind, lexFrom, lexText}
+use Rattle.tokens.specs.Lex.{Lexing, ended, refused, token, recordOf, lexeme, lexAt, lexNoMore, behind, lexFrom, lexText, mostTokens}
 use Rattle.tokens.specs.Layout.{Spelled, Lexical, Laid}
 use Rattle.tokens.specs.declared.lexer.Lexeme.{Lexeme}
 use Rattle.tokens.specs.declared.lexer.Lexeme.the-variants.{Token}
@@ -98,7 +98,7 @@ laid-from (suc n) s before p r =
 -- the tokens that the definition gives lie in the text as Layout.antt says
 pub laid : (s : List ℕ) → Laid s [] (lexText s)
 unfolding lexText walked
-laid s = laid-from 1024 s [] start (record { is = refl; rest = refl })
+laid s = laid-from mostTokens s [] start (record { is = refl; rest = refl })
 
 -- the bytes between two places that are reached are those of the characters between them
 pub octets-between : (s : List ℕ) (a u r : List Character) → chars s 0 ≡ a ++ (u ++ r) →

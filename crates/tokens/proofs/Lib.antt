@@ -15,6 +15,7 @@ pub mod LayoutLaws
 pub mod SpelledLaws
 pub mod BufferLaws
 pub mod PlacedLaws
+pub mod FormerLaws
 pub mod DurationLaws
 pub mod HoldsLaws
 pub mod Pairs

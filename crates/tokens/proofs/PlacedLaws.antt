@@ -1,6 +1,6 @@
 -- Every place of a lexing lies within its text, and in a text that passes question 1 nothing is cut: lines, columns, starts and lengths are the
--- numbers themselves (specs/Placed.antt).
-use mathlib.Core.Path.{_≡_, _∙_, refl, sym}
+-- numbers themselves (specs/Placed.antt), in the words of the records, too.
+use mathlib.Core.Path.{_≡_, _∙_, refl, sym, subst}
 use Prim.Native.Nat.{ℕ, zero, suc, _+_, _-_, _≤_}
 use native.Mathlib.Omega.{arith}
 use mathlib.Core.List.{List, [], _∷_, _++_, append-assoc, append-nil}
@@ -12,17 +12,18 @@ use Rattle.text.specs.Place.{start, walked, Within}
 use Rattle.text.proofs.Tests.{picked}
 use Rattle.text.proofs.WithinLaws.{counted-most, counted-exact, row-fits, walked-inside, walked-within, walked-counts}
 use Rattle.tokens.specs.Kind.{STRING}
-use Rattle.tokens.specs.Record.{capacity, wordsOf, wordAt, kindAt, numberAt, startAt, lengthAt, lineAt, columnAt}
-use Rattle.tokens.specs.Lex.{Lexing, recordOf, lexText, answerFrom, mostBytes}
+use Rattle.tokens.specs.Record.{capacity, halfWord, wordsOf, wordAt, kindAt, numberAt, startAt, lengthAt, lineAt, columnAt}
+use Rattle.tokens.specs.Lex.{Lexing, ended, refused, token, recordOf, lexText, answerFrom, mostBytes}
 use Rattle.tokens.specs.Layout.{Spelled, Laid, firstByte, endByte}
 use Rattle.tokens.specs.Ended.{recordWords, tokenLine, tokenColumn}
-use Rattle.tokens.specs.Placed.{Each, at-end, at-refusal, at-token, recordAt, Record-within, End-exact, Refusal-exact, Record-exact}
+use Rattle.tokens.specs.Placed.{Each, at-end, at-refusal, at-token, recordAt, zeros, tokenRecord, In-word, All-in-word, Record-within, End-exact, Refusal-exact, Record-exact}
 use Rattle.tokens.specs.declared.record.Record.{Record}
 use Rattle.tokens.specs.declared.lexer.Lexed.{Lexed}
 use Rattle.tokens.specs.declared.lexer.Lexed.the-variants.{Tokens, Refused}
 use Rattle.tokens.proofs.LayoutReads.{walked-on, row}
 use Rattle.tokens.proofs.LayoutLaws.{laid}
 use Rattle.tokens.proofs.SpelledLaws.{string-some}
+use Rattle.tokens.proofs.RecordLaws.{half-most, half-exact, line-half, column-half}
 use Rattle.tokens.proofs.BufferLaws.{first-word, next-word}
 
 -- ---- one token
@@ -120,49 +121,118 @@ placed-exactly s short =
 
 -- ---- in the words of the records
 
-zeros : Record
-zeros = record { kind = 0; number = 0; start = 0; length = 0; line = 0; column = 0 }
+-- the record as its words hold it
+held : Record → Record
+held r =
+    record {
+      kind = r .kind;
+      number = r .number;
+      start = r .start;
+      length = r .length;
+      line = halfWord (r .line);
+      column = halfWord (r .column);
+    }
 
-record-first : (r : Record) (words : List ℕ) → recordAt (wordsOf r ++ words) 0 ≡ r
-unfolding recordAt kindAt numberAt startAt lengthAt lineAt columnAt wordsOf
+record-first : (r : Record) (words : List ℕ) → recordAt (wordsOf r ++ words) 0 ≡ held r
+unfolding recordAt kindAt numberAt startAt lengthAt lineAt columnAt wordsOf held
 record-first r words =
-    rw (first-word r words 0, first-word r words 1, first-word r words 2, first-word r words 3, first-word r words 4, first-word r words 5)
+    rw (
+      first-word r words 0,
+      first-word r words 1,
+      first-word r words 2,
+      first-word r words 3,
+      first-word r words 4,
+      line-half (r .line) (r .column),
+      column-half (r .line) (r .column),
+    )
 
 record-next : (r : Record) (words : List ℕ) (i : ℕ) → recordAt (wordsOf r ++ words) (suc i) ≡ recordAt words i
 unfolding recordAt kindAt numberAt startAt lengthAt lineAt columnAt
 record-next r words i =
-    rw (next-word r words i 0, next-word r words i 1, next-word r words i 2, next-word r words i 3, next-word r words i 4, next-word r words i 5)
+    rw (next-word r words i 0, next-word r words i 1, next-word r words i 2, next-word r words i 3, next-word r words i 4)
 
-record-none : (i : ℕ) → recordAt [] i ≡ zeros
-unfolding recordAt kindAt numberAt startAt lengthAt lineAt columnAt wordAt capacity zeros
+record-none : (i : ℕ) → recordAt [] i ≡ held zeros
+unfolding recordAt kindAt numberAt startAt lengthAt lineAt columnAt wordAt capacity zeros held halfWord
 record-none i = rw (le-ltb i 0 (omega arith))
 
+held-at : (l : Lexing) (i : ℕ) → recordAt (recordWords l) i ≡ held (tokenRecord l i)
+unfolding recordWords tokenRecord
+held-at (ended p) i = record-none i
+held-at (refused number p) i = record-none i
+held-at (token r l) zero = record-first r (recordWords l)
+held-at (token r l) (suc i) = record-next r (recordWords l) i ∙ held-at l i
+
 -- what holds of each record, and of zeros, holds of the record at any index
-each-at : {E F : ℕ → ℕ → Type 0} {T : Record → Type 0} {l : Lexing} → T zeros → Each E F T l → (i : ℕ) → T (recordAt (recordWords l) i)
-unfolding recordWords
-each-at z (at-end p) i = rw (record-none i) z
-each-at z (at-refusal p) i = rw (record-none i) z
-each-at z (at-token {r} {l} t e) zero = rw (record-first r (recordWords l)) t
-each-at z (at-token {r} {l} t e) (suc i) = rw (record-next r (recordWords l) i) (each-at z e i)
+each-at : {E F : ℕ → ℕ → Type 0} {T : Record → Type 0} {l : Lexing} → T zeros → Each E F T l → (i : ℕ) → T (tokenRecord l i)
+unfolding tokenRecord
+each-at z (at-end p) i = z
+each-at z (at-refusal p) i = z
+each-at z (at-token t e) zero = t
+each-at z (at-token t e) (suc i) = each-at z e i
 
 -- every record lies within the text
-pub within-at : (s : List ℕ) (i : ℕ) → Record-within s (recordAt (recordWords (lexText s)) i)
+held-within : (s : List ℕ) (r : Record) → Record-within s r → Record-within s (held r)
+unfolding held
+held-within s r w =
+    let p = w .place in
+    record {
+      place =
+          record {
+            line-most = omega (arith, half-most (r .line), p .line-most);
+            column-most = omega (arith, half-most (r .column), p .column-most);
+          };
+      bytes = w .bytes;
+    }
+
+zeros-within : (s : List ℕ) → Record-within s zeros
 unfolding zeros
-within-at s i =
-    each-at (record { place = record { line-most = omega arith; column-most = omega arith }; bytes = omega arith }) (placed s) i
+zeros-within s = record { place = record { line-most = omega arith; column-most = omega arith }; bytes = omega arith }
+
+pub within-at : (s : List ℕ) (i : ℕ) → Record-within s (recordAt (recordWords (lexText s)) i)
+within-at s i = rw (held-at (lexText s) i) (held-within s (tokenRecord (lexText s) i) (each-at (zeros-within s) (placed s) i))
+
+-- ---- "no place, the end's included, loses anything"
+
+each-so : {E F G H : ℕ → ℕ → Type 0} {T U : Record → Type 0} {l : Lexing} → ((line column : ℕ) → E line column → G line column) →
+    ((line column : ℕ) → F line column → H line column) → ((r : Record) → T r → U r) → Each E F T l → Each G H U l
+each-so f g h (at-end p) = at-end (f _ _ p)
+each-so f g h (at-refusal p) = at-refusal (g _ _ p)
+each-so f g h (at-token t e) = at-token (h _ t) (each-so f g h e)
+
+-- "A text of 16,384 bytes cannot pass line or column 16,385"
+in-word : {s : List ℕ} → length s ≤ mostBytes → (line column : ℕ) → Within s line column → In-word line column
+in-word short line column w = record { line-below = omega (arith, w .line-most); column-below = omega (arith, w .column-most) }
+
+pub all-in-word : (s : List ℕ) → length s ≤ mostBytes → All-in-word (lexText s)
+all-in-word s short = each-so (in-word short) (in-word short) (λ r t. in-word short (r .line) (r .column) (t .place)) (placed s)
+
+held-exact : (r : Record) → In-word (r .line) (r .column) → held r ≡ r
+unfolding held
+held-exact r w = rw (half-exact (r .line) (w .line-below), half-exact (r .column) (w .column-below))
+
+zeros-in-word : In-word (zeros .line) (zeros .column)
+unfolding zeros
+zeros-in-word = record { line-below = omega arith; column-below = omega arith }
+
+-- the words give back each record as it was lexed
+pub records-back : (s : List ℕ) → length s ≤ mostBytes → (i : ℕ) → recordAt (recordWords (lexText s)) i ≡ tokenRecord (lexText s) i
+records-back s short i =
+    held-at (lexText s) i
+    ∙ held-exact
+    (tokenRecord (lexText s) i)
+    (each-at {T = λ (r : Record). In-word (r .line) (r .column)} zeros-in-word (all-in-word s short) i)
 
 -- where there is a token, its record is exact
-some-exact : {s : List ℕ} {E F : ℕ → ℕ → Type 0} {l : Lexing} → Each E F (Record-exact s) l →
-    Each E F (λ (r : Record). (r .kind ≡ 0 → ⊥) → Record-exact s r) l
-some-exact (at-end p) = at-end p
-some-exact (at-refusal p) = at-refusal p
-some-exact (at-token t e) = at-token (λ h. t) (some-exact e)
+abbrev Some-exact : List ℕ → Record → Type 0
+Some-exact s r = (r .kind ≡ 0 → ⊥) → Record-exact s r
 
 pub exact-at : (s : List ℕ) → length s ≤ mostBytes → (i : ℕ) → (kindAt (recordWords (lexText s)) i ≡ 0 → ⊥) →
     Record-exact s (recordAt (recordWords (lexText s)) i)
 unfolding zeros recordAt
 exact-at s short i h =
-    each-at {T = λ (r : Record). (r .kind ≡ 0 → ⊥) → Record-exact s r} (λ k. absurd (k refl)) (some-exact (placed-exactly s short)) i h
+    subst (Some-exact s) (sym (records-back s short i))
+    (each-at {T = Some-exact s} (λ k. absurd (k refl)) (each-so (λ l c p. p) (λ l c p. p) (λ r t k. t) (placed-exactly s short)) i)
+    h
 
 -- ---- in the answers
 
@@ -182,6 +252,9 @@ module _ (s : List ℕ) {count line column : ℕ} (is : answerFrom 0 (lexText s)
   unfolding Of-answer
   ended-within = rw is at (answer-in (placed s) 0)
 
+  pub ended-in-word : length s ≤ mostBytes → In-word line column
+  ended-in-word short = in-word short line column ended-within
+
   pub ended-exactly : length s ≤ mostBytes → End-exact s line column
   unfolding Of-answer
   ended-exactly short = rw is at (answer-in (placed-exactly s short) 0)
@@ -190,6 +263,9 @@ module _ (s : List ℕ) {number line column : ℕ} (is : answerFrom 0 (lexText s
   pub refused-within : Within s line column
   unfolding Of-answer
   refused-within = rw is at (answer-in (placed s) 0)
+
+  pub refused-in-word : length s ≤ mostBytes → In-word line column
+  refused-in-word short = in-word short line column refused-within
 
   pub refused-exactly : length s ≤ mostBytes → Refusal-exact s line column
   unfolding Of-answer
@@ -205,3 +281,6 @@ place-in (at-token t e) (suc i) = place-in e i
 
 pub place-within : (s : List ℕ) (i : ℕ) → Within s (tokenLine (lexText s) i) (tokenColumn (lexText s) i)
 place-within s i = place-in (placed s) i
+
+pub place-in-word : (s : List ℕ) → length s ≤ mostBytes → (i : ℕ) → In-word (tokenLine (lexText s) i) (tokenColumn (lexText s) i)
+place-in-word s short i = in-word short (tokenLine (lexText s) i) (tokenColumn (lexText s) i) (place-within s i)

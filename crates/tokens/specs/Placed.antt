@@ -1,13 +1,13 @@
--- Where the tokens of a text stand, and its refusal or its end: within the text, and in a text that passes question 1 with nothing cut to
--- 32 bits. proofs/PlacedLaws.antt shows it of lexText.
-use Prim.Native.Nat.{ℕ, _+_, _-_, _≤_}
+-- Where the tokens of a text stand, and its refusal or its end: within the text, and in a text that passes question 1 with nothing cut, to
+-- 32 bits or to half a word. proofs/PlacedLaws.antt shows it of lexText.
+use Prim.Native.Nat.{ℕ, zero, suc, _+_, _-_, _<_, _≤_}
 use mathlib.Core.Path.{_≡_}
 use mathlib.Core.List.{List, _∷_, _++_}
 use lib.ListN.{length}
 use Rattle.text.specs.Utf8.{Character, codes, chars}
 use Rattle.text.specs.Place.{Counts, Within, start, walked}
 use Rattle.text.specs.declared.place.Place.{Place}
-use Rattle.tokens.specs.Record.{kindAt, numberAt, startAt, lengthAt, lineAt, columnAt}
+use Rattle.tokens.specs.Record.{placeUnit, kindAt, numberAt, startAt, lengthAt, lineAt, columnAt}
 use Rattle.tokens.specs.Lex.{Lexing, ended, refused, token}
 use Rattle.tokens.specs.Layout.{Spelled, firstByte, endByte}
 use Rattle.tokens.specs.declared.record.Record.{Record}
@@ -29,6 +29,25 @@ recordAt words i =
       line = lineAt words i;
       column = columnAt words i;
     }
+
+-- the record of the token with an index, as it was lexed; zeros where there is none
+unfoldable pub zeros : Record
+zeros = record { kind = 0; number = 0; start = 0; length = 0; line = 0; column = 0 }
+
+unfoldable pub tokenRecord : Lexing → ℕ → Record
+tokenRecord (ended p) i = zeros
+tokenRecord (refused number p) i = zeros
+tokenRecord (token r l) zero = r
+tokenRecord (token r l) (suc i) = tokenRecord l i
+
+-- a line and a column of which the word of a place loses nothing: both are below the unit
+pub record In-word (line column : ℕ) : Type 0 where
+  pub line-below : line < placeUnit
+  pub column-below : column < placeUnit
+
+-- every place of a lexing is so, "the end's included"
+abbrev pub All-in-word : Lexing → Type 0
+All-in-word l = Each In-word In-word (λ (r : Record). In-word (r .line) (r .column)) l
 
 -- a token's place and its bytes lie within s
 pub record Record-within (s : List ℕ) (r : Record) : Type 0 where

@@ -1,8 +1,8 @@
-// Token records: six words each in the lent words. In the code only this file knows their order; others ask by its functions and go
+// Token records: five words each in the lent words. In the code only this file knows their order; others ask by its functions and go
 // from record to record by RECORD_SIZE. specs/Record.antt has the same order, and include/tergyosul.h has it for callers.
 ghost use mathlib.Core.Path.{_≡_};
 ghost use Prim.Native.Nat.{_<_};
-ghost use Rattle.tokens.specs.Record.{recordSize, capacity, written, wordAt, kindAt, numberAt, startAt, lengthAt, lineAt, columnAt, bytesAt};
+ghost use Rattle.tokens.specs.Record.{recordSize, capacity, halfWord, placeWord, written, wordAt, kindAt, numberAt, startAt, lengthAt, lineAt, columnAt, bytesAt};
 
 pub struct Record {
     pub kind: u32,
@@ -14,13 +14,32 @@ pub struct Record {
 }
 
 // How many words a record has.
-pub const RECORD_SIZE: usize = 6;
+pub const RECORD_SIZE: usize = 5;
+
+// The unit of the line in the word of a place; the column stands below it.
+const PLACE_UNIT: u32 = 65536;
 
 // How many whole records the words hold.
 pub fn count(words: &[u32]) -> usize
     ensures { λ r. ⌜ r ≡ capacity (now (words .entry)) ⌝ }
 {
     words.len() / RECORD_SIZE
+}
+
+// A line or a column as far as half a word holds it.
+fn half_word(n: u32) -> u32
+    ensures { λ r. ⌜ r ≡ halfWord n ⌝ }
+{
+    if n < PLACE_UNIT { n } else { PLACE_UNIT - 1 }
+}
+
+// Line and column in one word.
+fn place_word(line: u32, column: u32) -> u32
+    ensures { λ r. ⌜ r ≡ placeWord line column ⌝ }
+{
+    let high = half_word(line);
+    let low = half_word(column);
+    high * PLACE_UNIT + low
 }
 
 // Writes a record at an index. Where there is no room for it nothing is written.
@@ -31,12 +50,12 @@ pub fn put(words: &mut [u32], i: usize, r: Record)
         return;
     }
     let at = i * RECORD_SIZE;
+    let place = place_word(r.line, r.column);
     words[at] = r.kind;
     words[at + 1] = r.number;
     words[at + 2] = r.start;
     words[at + 3] = r.length;
-    words[at + 4] = r.line;
-    words[at + 5] = r.column;
+    words[at + 4] = place;
 }
 
 // Word k of the record at an index; 0 where there is no record.
@@ -78,13 +97,13 @@ pub fn length(words: &[u32], i: usize) -> u32
 pub fn line(words: &[u32], i: usize) -> u32
     ensures { λ r. ⌜ r ≡ lineAt (now (words .entry)) i ⌝ }
 {
-    word(words, i, 4)
+    word(words, i, 4) / PLACE_UNIT
 }
 
 pub fn column(words: &[u32], i: usize) -> u32
     ensures { λ r. ⌜ r ≡ columnAt (now (words .entry)) i ⌝ }
 {
-    word(words, i, 5)
+    word(words, i, 4) % PLACE_UNIT
 }
 
 // The part of the text that a token's record names: of a string, what stands between its quotes.

@@ -15,8 +15,25 @@ pub struct Case {
     pub sheet: Vec<u8>,
 }
 
-/// Words of one token record: kind, number, start, length, line, column.
-pub const RECORD: usize = 6;
+/// The most tokens of a text.
+pub const MOST_TOKENS: usize = 1_024;
+/// Words of one token record: kind, number, start, length, place (document 02 §5).
+pub const RECORD: usize = 5;
+/// The least token buffer that a call takes, and the least before document 02 §5.
+pub const LEAST_WORDS: usize = MOST_TOKENS * RECORD;
+pub const FORMER_LEAST_WORDS: usize = MOST_TOKENS * 6;
+/// What a line counts in the word of a place; a column is less.
+const LINE: u32 = 65_536;
+
+/// "Keep both in one word, line × 65,536 + column."
+pub fn place_word(line: u32, column: u32) -> u32 {
+    line * LINE + column
+}
+
+/// The line and the column that the word of a place holds.
+pub fn line_and_column(word: u32) -> (u32, u32) {
+    (word / LINE, word % LINE)
+}
 
 /// What lexing alone leaves behind.
 #[derive(Debug, Clone, PartialEq, Eq)]
@@ -100,8 +117,17 @@ mod tests {
     use super::*;
 
     #[test]
+    fn the_buffer_and_the_places_of_document_02() {
+        assert_eq!((LEAST_WORDS, FORMER_LEAST_WORDS), (5_120, 6_144));
+        for place in [(1, 1), (1, 16_385), (16_385, 1), (8_192, 8_193), (2, 65_535)] {
+            assert_eq!(line_and_column(place_word(place.0, place.1)), place);
+        }
+        assert_eq!((place_word(1, 1), place_word(16_385, 1), place_word(1, 16_385)), (65_537, 1_073_807_361, 81_921));
+    }
+
+    #[test]
     fn a_written_case_is_read_back() {
-        let case = Case { id: 7, words: 6_144, text: b"when \n\xff".to_vec(), sheet: b"primary,0".to_vec() };
+        let case = Case { id: 7, words: LEAST_WORDS, text: b"when \n\xff".to_vec(), sheet: b"primary,0".to_vec() };
         let mut bytes = Vec::new();
         write_case(&mut bytes, &case).unwrap();
         assert!(matches!(read_case(&mut &bytes[..]).unwrap(), Next::Case(c) if c == case));

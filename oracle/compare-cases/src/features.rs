@@ -1,6 +1,6 @@
 //! What a case covered, read off its answer in the replay format, and off its text for what the answer does not say.
 
-use crate::durations;
+use crate::{durations, records};
 use cases::Case;
 use std::io::{self, Write};
 
@@ -62,6 +62,7 @@ const GROUPS: &[(&str, &[&str])] = &[
     ("refused", REFUSALS), ("token", TOKENS), ("trigger", TRIGGERS), ("condition", CONDITIONS), ("reading", READINGS),
     ("event", EVENTS), ("selector", SELECTORS), ("target", TARGETS), ("bound", BOUNDS), ("comparison", COMPARISONS),
     ("value", VALUES), ("choice", CHOICES), ("count", COUNTS), ("duration", durations::SORTS),
+    ("buffer", records::SORTS),
 ];
 
 /// The places of the groups in `GROUPS`.
@@ -79,6 +80,7 @@ const VALUE: usize = 10;
 const CHOICE: usize = 11;
 const COUNT: usize = 12;
 const DURATION: usize = 13;
+const BUFFER: usize = 14;
 
 /// The set of what one answer shows; each member is numbered along `GROUPS`.
 #[derive(Debug, Clone, Copy, Default, PartialEq, Eq, Hash, PartialOrd, Ord)]
@@ -105,6 +107,7 @@ impl Features {
     pub fn of(case: &Case, answer: &str) -> Features {
         let mut set = Features::default();
         durations::sorts(case, answer).into_iter().for_each(|sort| set.mark(DURATION, Some(sort)));
+        records::sorts(case, answer).into_iter().for_each(|sort| set.mark(BUFFER, Some(sort)));
         for line in answer.lines() {
             let mut fields = line.split(' ');
             match fields.next() {

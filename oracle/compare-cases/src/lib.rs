@@ -6,6 +6,7 @@ pub mod external;
 pub mod features;
 pub mod options;
 pub mod readers;
+mod records;
 pub mod run;
 pub mod shrink;
 pub mod vectors;

@@ -1,9 +1,6 @@
 //! Making a case small while it still shows what it showed.
 
-use cases::Case;
-
-/// The usual buffer; a case that does without another is easier to read.
-const USUAL_WORDS: usize = 6_144;
+use cases::{Case, LEAST_WORDS as USUAL_WORDS};
 
 /// A case as small as dropping rows of the sheet, tokens and bytes makes it, with `shows` true of it all the way.
 /// `shows` is asked at most `tries` times. If it is not true of `case`, that comes back as it is.
@@ -33,6 +30,7 @@ fn weight(case: &Case) -> usize {
     case.text.len() + case.sheet.len()
 }
 
+/// A case that does without another buffer is easier to read.
 fn with_usual_words(best: &mut Case, shows: &mut dyn FnMut(&Case) -> bool) {
     let usual = Case { words: USUAL_WORDS, ..best.clone() };
     if best.words != USUAL_WORDS && shows(&usual) {

@@ -5,7 +5,7 @@ use crate::readers::{guarded, quiet_panics, Other, Reader, Readers};
 use crate::run::{run, smallest, Difference, Outcome, Plan};
 use crate::shrink::shrink;
 use crate::vectors;
-use cases::Case;
+use cases::{Case, FORMER_LEAST_WORDS, LEAST_WORDS, MOST_WORDS};
 
 const SEED: u64 = 11;
 
@@ -40,7 +40,7 @@ fn a_group_id_of_16_is_found() {
     for threads in [1, 2] {
         let found = difference(&second::answer, &faulty, threads).expect("a difference");
         assert_eq!(found.other, Other::Supplied);
-        assert_eq!((found.case.text.as_slice(), found.case.words), (&b"group(16"[..], 6_144));
+        assert_eq!((found.case.text.as_slice(), found.case.words), (&b"group(16"[..], LEAST_WORDS));
         assert!(found.case.sheet.is_empty(), "{}", found.case.sheet.escape_ascii());
         assert_eq!(found.answer, "accepted 1 0\n");
     }
@@ -92,13 +92,13 @@ fn a_panic_is_an_answer() {
 
 #[test]
 fn shrinking_leaves_what_matters() {
-    let case = Case { id: 1, words: 8_192, text: b"when lamp(\"Aisle\") turns on # x".to_vec(), sheet: b"primary,0\nlamp,0,1,a\nlamp,1,2,b\n".to_vec() };
+    let case = Case { id: 1, words: MOST_WORDS, text: b"when lamp(\"Aisle\") turns on # x".to_vec(), sheet: b"primary,0\nlamp,0,1,a\nlamp,1,2,b\n".to_vec() };
     let mut asked = 0;
     let small = shrink(&case, 10_000, &mut |case| {
         asked += 1;
         contains(&case.text, b"turns") && contains(&case.sheet, b"lamp,1") && case.text.contains(&b'#')
     });
-    assert_eq!((small.text.as_slice(), small.sheet.as_slice(), small.words), (&b"turns#"[..], &b"lamp,1"[..], 6_144));
+    assert_eq!((small.text.as_slice(), small.sheet.as_slice(), small.words), (&b"turns#"[..], &b"lamp,1"[..], LEAST_WORDS));
     assert!(asked < 500, "{asked}");
 }
 
@@ -115,13 +115,13 @@ fn features_are_read_off_an_answer() {
     let answer = "case 1\ntoken 5 5000 0 2 1 1\ntoken 22 0 0 1 1 1\nbuffer kept\naccepted 2 3\n\
         T input_event group 0 2 - raw 5\nT hcl_override broadcast 0 clears\n\
         C lamp_level 0 1 ge offset lamp_cct 0 2 -5\nC var_compare x61 ne text x\nC time_in_range clock 5 solar sunset -3\n";
-    let case = Case { id: 1, words: 6_144, text: b"5s".to_vec(), sheet: Vec::new() };
+    let case = Case { id: 1, words: LEAST_WORDS, text: b"5s".to_vec(), sheet: Vec::new() };
     let names: Vec<String> = Features::of(&case, answer).members().map(feature_name).collect();
     let wanted = [
         "token 5", "token 22", "trigger input_event", "trigger hcl_override", "condition time_in_range", "condition lamp_level",
         "condition var_compare", "reading lamp_cct", "event raw", "selector group", "target broadcast", "bound clock",
         "bound sunset", "comparison ne", "comparison ge", "value offset", "value text", "choice T hcl_override clears",
-        "count T 2", "count C 3",
+        "count T 2", "count C 3", "buffer least taken",
     ];
     assert_eq!(names, wanted);
     assert!(feature_count() <= 256);
@@ -130,7 +130,7 @@ fn features_are_read_off_an_answer() {
 #[test]
 fn sorts_of_durations_are_read_off_the_text() {
     let shown = |text: &str| {
-        let case = Case { id: 1, words: 6_144, text: text.into(), sheet: b"primary,0".to_vec() };
+        let case = Case { id: 1, words: LEAST_WORDS, text: text.into(), sheet: b"primary,0".to_vec() };
         let names = Features::of(&case, &second::answer(&case)).members().map(feature_name);
         names.filter_map(|name| name.strip_prefix("duration ").map(String::from)).collect::<Vec<_>>().join(", ")
     };
@@ -153,9 +153,31 @@ fn sorts_of_durations_are_read_off_the_text() {
 }
 
 #[test]
+fn sizes_of_buffers_and_far_places_are_counted() {
+    let shown = |words: usize, text: String| {
+        let case = Case { id: 1, words, text: text.into(), sheet: b"primary,0".to_vec() };
+        let names = Features::of(&case, &second::answer(&case)).members().map(feature_name);
+        names.filter_map(|name| name.strip_prefix("buffer ").map(String::from)).collect::<Vec<_>>().join(", ")
+    };
+    let small = |words| shown(words, "when".to_string());
+    assert_eq!((small(0), small(LEAST_WORDS - 1)), (String::new(), "least - 1 refused".to_string()));
+    assert_eq!((small(LEAST_WORDS), small(LEAST_WORDS + 1)), ("least taken".to_string(), "least + 1 taken".to_string()));
+    assert_eq!((small(FORMER_LEAST_WORDS - 1), small(MOST_WORDS)), ("former least - 1 taken".to_string(), "most taken".to_string()));
+    assert_eq!(shown(LEAST_WORDS, "(\n".repeat(1_024)), "least taken, least full, token line 256");
+    assert_eq!(shown(LEAST_WORDS + 2, "(".repeat(1_024)), "larger full, token column 256");
+    let far = |lines: usize, spaces: usize, last: &str| shown(FORMER_LEAST_WORDS, "\n".repeat(lines) + &" ".repeat(spaces) + last);
+    assert_eq!(far(255, 255, "("), "former least taken, token line 256, token column 256, token both 256");
+    assert_eq!(far(0, 254, "("), "former least taken");
+    assert_eq!(far(16_383, 0, "("), "former least taken, token line 256, last line of a token");
+    assert_eq!(far(0, 16_383, "("), "former least taken, token column 256, last column of a token");
+    assert_eq!((far(16_384, 0, ""), far(0, 16_384, "")), (
+        "former least taken, last line of the end".to_string(), "former least taken, last column of the end".to_string()));
+}
+
+#[test]
 fn the_generators_durations_are_what_they_are_called() {
     use generate::vocabulary::{DURATIONS, WRONG_DURATIONS};
-    let taken = |text: &[u8]| matches!(&second::lexing(text, 6_144).0, lexing if lexing.number == 0 && lexing.records.len() == 1);
+    let taken = |text: &[u8]| matches!(&second::lexing(text, LEAST_WORDS).0, lexing if lexing.number == 0 && lexing.records.len() == 1);
     assert!(DURATIONS.iter().all(|text| taken(text.as_bytes())));
     assert!(!WRONG_DURATIONS.iter().any(|text| taken(text.as_bytes())));
     let mut rng = generate::Rng::new(SEED, 0);
@@ -168,7 +190,7 @@ fn the_generators_durations_are_what_they_are_called() {
 #[test]
 fn coverage_counts_cases_and_names_zeros() {
     let mut coverage = Coverage::default();
-    let case = Case { id: 1, words: 6_144, text: Vec::new(), sheet: Vec::new() };
+    let case = Case { id: 1, words: LEAST_WORDS, text: Vec::new(), sheet: Vec::new() };
     coverage.add(&case, "case 1\nbuffer kept\nrefused 41 1 1 0\n", true);
     coverage.add(&case, "case 2\nbuffer kept\naccepted 1 0\nT every 1000\n", false);
     let mut both = coverage.clone();
@@ -176,7 +198,7 @@ fn coverage_counts_cases_and_names_zeros() {
     assert_eq!((both.cases, both.in_domain, both.accepted, both.refused), (4, 2, 2, 2));
     let zeros = both.zeros();
     assert!(zeros.contains(&"refused 40".to_string()) && !zeros.contains(&"refused 41".to_string()));
-    assert_eq!(zeros.len(), feature_count() - 4);
+    assert_eq!(zeros.len(), feature_count() - 5);
 }
 
 #[test]
@@ -201,7 +223,7 @@ fn options_are_read() {
 #[test]
 fn vectors_take_the_smallest_first() {
     let answer = |case: &Case| format!("case {}\nrefused {} 1 1 0\n", case.id, 20 + case.text.len() % 3);
-    let make = |index: u64| Case { id: index, words: 6_144, text: vec![b'a'; 60 - index as usize], sheet: Vec::new() };
+    let make = |index: u64| Case { id: index, words: LEAST_WORDS, text: vec![b'a'; 60 - index as usize], sheet: Vec::new() };
     let chosen = vectors::choose(4, 60, &make, vec![make(5)], &answer);
     assert_eq!(chosen.iter().map(|case| case.id).collect::<Vec<_>>(), [1, 2, 3, 4]);
     let mut lengths: Vec<usize> = chosen.iter().map(|case| case.text.len()).collect();
@@ -211,7 +233,7 @@ fn vectors_take_the_smallest_first() {
 
 #[test]
 fn stored_cases_are_extended_once() {
-    let make = |id: u64, text: &str| Case { id, words: 6_144, text: text.into(), sheet: Vec::new() };
+    let make = |id: u64, text: &str| Case { id, words: LEAST_WORDS, text: text.into(), sheet: Vec::new() };
     let stored = vec![make(1, "a"), make(2, "b")];
     let more = || vec![make(0, "b"), make(0, "c"), make(0, "d")];
     let extended = vectors::extended(stored, more());

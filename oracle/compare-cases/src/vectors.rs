@@ -7,7 +7,7 @@ use std::collections::HashMap;
 use std::fs::File;
 use std::io::{self, BufReader, BufWriter, Write};
 
-/// Every feature is to be shown by so many cases.
+/// Every feature is to be shown by so many cases; one that needs a text of the longest length, by one.
 const AT_LEAST: usize = 2;
 /// A case is left aside if it and its answer have more bytes than this; the landmarks are the large ones.
 const MOST_EACH: usize = 1_500;
@@ -160,13 +160,17 @@ pub fn extended(mut cases: Vec<Case>, more: Vec<Case>) -> Vec<Case> {
     cases
 }
 
+fn at_least(feature: usize) -> usize {
+    if feature_name(feature).starts_with("buffer last ") { 1 } else { AT_LEAST }
+}
+
 /// The features that too few of the cases show.
 pub fn short_of(cases: &[Case], second: Reader) -> Vec<String> {
     let mut counts = vec![0; feature_count()];
     for case in cases {
         Features::of(case, &guarded(second, case)).members().for_each(|feature| counts[feature] += 1);
     }
-    (0..counts.len()).filter(|&feature| counts[feature] < AT_LEAST).map(feature_name).collect()
+    (0..counts.len()).filter(|&feature| counts[feature] < at_least(feature)).map(feature_name).collect()
 }
 
 /// Writes the cases as replay input to one file and the second reader's answers to the other.

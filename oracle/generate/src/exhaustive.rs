@@ -1,7 +1,7 @@
 //! Every sequence of a few pieces, over small vocabularies and behind fixed beginnings, so that whole triggers,
 //! conditions, arguments and readings come up with all their near misses.
 
-use cases::Case;
+use cases::{Case, LEAST_WORDS};
 
 /// What the pieces make up.
 #[derive(Clone, Copy, PartialEq)]
@@ -137,7 +137,7 @@ pub fn exhaustive_case(length: usize, index: u64) -> Case {
                 Place::Text => (made, SHEET.to_vec()),
                 Place::Sheet => (b"when lamp(\"b\") turns on".to_vec(), made),
             };
-            return Case { id: index, words: 6_144, text, sheet };
+            return Case { id: index, words: LEAST_WORDS, text, sheet };
         }
         left -= here;
     }

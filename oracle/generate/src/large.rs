@@ -6,19 +6,19 @@ use crate::rng::Rng;
 use crate::sheet::Sheet;
 use crate::spell::{spell, Token};
 use crate::vocabulary::{INTEGERS, SPACES};
-use cases::{Case, MOST_BYTES as FORMAT_BYTES};
+use cases::{Case, LEAST_WORDS, MOST_BYTES as FORMAT_BYTES, MOST_TOKENS, MOST_WORDS};
 use std::borrow::Cow;
 
-const MOST_TOKENS: usize = 1_024;
 const MOST_BYTES: usize = 16_384;
 
 /// A large text of a random sort.
 pub fn text(rng: &mut Rng, sheet: &Sheet) -> Vec<u8> {
-    match rng.below(9) {
+    match rng.below(11) {
         0..=2 => many_arguments(rng),
         3 | 4 => many_tokens(rng),
         5 => random_tokens(rng),
         6 => many_zeros(rng),
+        7 | 8 => far(rng),
         _ => long(rng, sheet),
     }
 }
@@ -67,6 +67,24 @@ fn soft_token(rng: &mut Rng) -> Token {
         return Cow::Borrowed(INTEGERS[rng.below(10)].as_bytes());
     }
     token
+}
+
+/// A token, or the end alone, as far down, to the right or both as a text goes, or nearly so.
+fn far(rng: &mut Rng) -> Vec<u8> {
+    let length = match rng.below(5) {
+        0 => rng.within(300, MOST_BYTES),
+        1 => rng.within(MOST_BYTES - 1, MOST_BYTES + 1),
+        _ => MOST_BYTES,
+    };
+    let last = rng.pick(&["", "", "(", "(", "@", "when", "when http trigger", "\"", "\"\""]);
+    let before = length - last.len();
+    let lines = match rng.below(6) {
+        0 | 1 => 0,
+        2 | 3 => before,
+        4 => before / 2,
+        _ => rng.within(0, before),
+    };
+    format!("{}{}{last}", "\n".repeat(lines), " ".repeat(before - lines)).into_bytes()
 }
 
 /// A duration with so many zeros that the text has about the longest length there may be.
@@ -124,17 +142,17 @@ pub fn landmarks() -> Vec<Case> {
     let good = "when controller starts";
     let arguments = |count: usize| format!("when input({}dev=1,inst=2) is press", "dev=9,".repeat(count));
     let list: Vec<(usize, String, Vec<u8>)> = vec![
-        (6_144, arguments(252) + " when http trigger", small()),
-        (6_144, "(".repeat(MOST_TOKENS) + "@", small()),
-        (8_192, ")".repeat(MOST_TOKENS + 1), small()),
-        (6_144, format!("{good}{}", " ".repeat(MOST_BYTES - good.len())), small()),
-        (6_144, "#".repeat(MOST_BYTES + 1), small()),
+        (LEAST_WORDS, arguments(252) + " when http trigger", small()),
+        (LEAST_WORDS, "(".repeat(MOST_TOKENS) + "@", small()),
+        (MOST_WORDS, ")".repeat(MOST_TOKENS + 1), small()),
+        (LEAST_WORDS, format!("{good}{}", " ".repeat(MOST_BYTES - good.len())), small()),
+        (LEAST_WORDS, "#".repeat(MOST_BYTES + 1), small()),
         (0, "\n".repeat(MOST_BYTES + 1), small()),
-        (6_144, "when lamp(\"z\") turns on".to_string(), adapters(511, "lamp,7,9,z\n")),
-        (6_144, "when lamp(\"z\", adapter=255) turns on".to_string(), adapters(511, "lamp,7,9,z")),
-        (6_144, good.to_string(), adapters(512, "lamp,7,9,z\n")),
-        (6_144, good.to_string(), crate::sheet::of_length(16_385)),
-        (6_143, good.to_string(), small()),
+        (LEAST_WORDS, "when lamp(\"z\") turns on".to_string(), adapters(511, "lamp,7,9,z\n")),
+        (LEAST_WORDS, "when lamp(\"z\", adapter=255) turns on".to_string(), adapters(511, "lamp,7,9,z")),
+        (LEAST_WORDS, good.to_string(), adapters(512, "lamp,7,9,z\n")),
+        (LEAST_WORDS, good.to_string(), crate::sheet::of_length(16_385)),
+        (LEAST_WORDS - 1, good.to_string(), small()),
         (0, good.to_string(), Vec::new()),
     ];
     list.into_iter().map(|(words, text, sheet)| Case { id: 0, words, text: text.into_bytes(), sheet }).collect()

@@ -21,13 +21,11 @@ pub use large::landmarks;
 pub use requests::requests;
 pub use rng::Rng;
 
-use cases::{Case, MOST_BYTES, MOST_WORDS};
+use cases::{Case, FORMER_LEAST_WORDS, LEAST_WORDS, MOST_BYTES, MOST_WORDS};
 use grammar::{Walk, NEVER, OFTEN, SELDOM};
 use sheet::Sheet;
 use spell::{spell, Token};
 
-/// The least token buffer that the reader takes.
-const ENOUGH_WORDS: usize = 6_144;
 /// The longest text that it takes, in bytes.
 const LONGEST_TEXT: usize = 16_384;
 
@@ -55,7 +53,7 @@ fn pile_up(rng: &mut Rng, words: &mut usize, text: &mut Vec<u8>, sheet: &mut She
         text.resize(text.len().max(LONGEST_TEXT + 1), b' ');
     }
     if rng.once_in(2) {
-        *words = ENOUGH_WORDS - 1;
+        *words = LEAST_WORDS - 1;
     }
     if rng.once_in(2) {
         let which = rng.below(sheet::BREAKS);
@@ -63,15 +61,18 @@ fn pile_up(rng: &mut Rng, words: &mut usize, text: &mut Vec<u8>, sheet: &mut She
     }
 }
 
-/// Mostly the least buffer that is enough.
+/// Mostly the least buffer that is enough; the least of document 01 is well past it.
 fn words(rng: &mut Rng) -> usize {
     match rng.below(200) {
         0 => 0,
-        1 => ENOUGH_WORDS - 1,
-        2 => rng.within(0, ENOUGH_WORDS),
-        3 => MOST_WORDS,
-        4..=8 => rng.within(ENOUGH_WORDS, MOST_WORDS),
-        _ => ENOUGH_WORDS,
+        1 => LEAST_WORDS - 1,
+        2 => rng.within(0, LEAST_WORDS),
+        3 | 4 => MOST_WORDS,
+        5 | 6 => LEAST_WORDS + 1,
+        7 | 8 => FORMER_LEAST_WORDS - 1,
+        9..=18 => FORMER_LEAST_WORDS,
+        19..=23 => rng.within(LEAST_WORDS, MOST_WORDS),
+        _ => LEAST_WORDS,
     }
 }
 

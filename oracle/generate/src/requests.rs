@@ -1,14 +1,15 @@
 //! Fixed cases for the requests of document 02, to be stored behind the sample of document 01.
 
-use cases::Case;
+use cases::{Case, FORMER_LEAST_WORDS, LEAST_WORDS, MOST_TOKENS, MOST_WORDS};
 
 /// The cases of every request that has landed, in the order of their landing.
 pub fn requests() -> Vec<Case> {
-    durations()
+    let mut cases = durations();
+    cases.extend(records());
+    cases
 }
 
 const SHEET: &[u8] = b"primary,0\n";
-const WORDS: usize = 6_144;
 
 fn case(words: usize, text: String) -> Case {
     Case { id: 0, words, text: text.into_bytes(), sheet: SHEET.to_vec() }
@@ -58,5 +59,26 @@ fn durations() -> Vec<Case> {
         "1000000000.00001h", "1000000000.0000h", "0.0000025h", "0.00001000000000h", "0.000001000000000h", "1844.0000000000000000s",
         "1845.0000000000000000s", "18446744.073709552s",
     ].map(|duration| older(duration.to_string())));
-    texts.into_iter().map(|text| case(WORDS, text)).collect()
+    texts.into_iter().map(|text| case(FORMER_LEAST_WORDS, text)).collect()
+}
+
+/// §5: buffers around the least one and around the former, all of it in use, and places as far as they go.
+fn records() -> Vec<Case> {
+    let good = "when controller starts";
+    let sizes = [LEAST_WORDS - 1, LEAST_WORDS, LEAST_WORDS + 1, FORMER_LEAST_WORDS - 1, FORMER_LEAST_WORDS, MOST_WORDS];
+    let texts = [good, "if sun is up"];
+    let mut cases: Vec<Case> = sizes.iter().flat_map(|&words| texts.map(|text| case(words, text.to_string()))).collect();
+    let full = format!("when http trigger when input({}dev=1,inst=2) is press", "dev=9,".repeat(252));
+    cases.extend([
+        Case { sheet: b"primary".to_vec(), ..case(LEAST_WORDS - 1, good.to_string()) },
+        case(LEAST_WORDS, full),
+        case(LEAST_WORDS, "(".repeat(MOST_TOKENS + 1)),
+    ]);
+    // A line or column past 255, and both; then the last ones there are, of a token and of the end.
+    let at = |lines: usize, spaces: usize, text: &str| format!("{}{}{text}", "\n".repeat(lines), " ".repeat(spaces));
+    cases.extend([
+        at(255, 0, "when http trigger"), at(256, 255, good), at(0, 255, "when"), at(300, 400, "when lamp(\"\u{e9}\") turns on"),
+        at(16_383, 0, "("), at(0, 16_383, "("), at(16_384, 0, ""), at(0, 16_384, ""),
+    ].map(|text| case(LEAST_WORDS, text)));
+    cases
 }

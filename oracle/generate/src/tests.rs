@@ -73,7 +73,7 @@ fn sizes_around_every_limit_come_up() {
     for length in [0, 16_383, 16_384, 16_385] {
         assert!(lengths.contains(&length), "text of {length}");
     }
-    for count in [0, 6_143, 6_144, 8_192] {
+    for count in [0, 5_119, 5_120, 5_121, 6_143, 6_144, 8_192] {
         assert!(words.contains(&count), "{count} words");
     }
     assert!(rows.contains(&513) && rows.contains(&514), "512 and 513 rows");

@@ -10,7 +10,7 @@ pub struct Input {
     pub sheet: String,
 }
 
-pub const WORDS: usize = 6_144;
+pub const WORDS: usize = cases::LEAST_WORDS;
 pub const ANSWER: usize = 108;
 const LONGEST: usize = 16_384;
 const UNTOUCHED: u32 = u32::MAX;

@@ -1,13 +1,12 @@
 //! Every short text of a few pieces, for what stands next to what.
 
-use cases::Case;
+use cases::{Case, LEAST_WORDS};
 
 /// Parts of tokens, white space, and characters of one to four bytes; the last two are no characters.
 const PIECES: &[&[u8]] = &[
     b"\"", b"#", b"\n", b" ", b".", b":", b"0", b"7", b"10", b"59", b"99999", b"m", b"s", b"h", b"_", b"=", b"!", b"<",
     b"-", b"(", "é".as_bytes(), "\u{2028}".as_bytes(), "\u{1F4A1}".as_bytes(), b"\xC3", b"\xFF",
 ];
-const WORDS: usize = 6_144;
 
 /// How many texts of so many pieces there are.
 pub fn count(length: u32) -> u64 {
@@ -22,5 +21,5 @@ pub fn case(length: u32, index: u64) -> Case {
         text.extend_from_slice(PIECES[(left % PIECES.len() as u64) as usize]);
         left /= PIECES.len() as u64;
     }
-    Case { id: index, words: WORDS, text, sheet: Vec::new() }
+    Case { id: index, words: LEAST_WORDS, text, sheet: Vec::new() }
 }

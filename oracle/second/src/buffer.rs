@@ -1,7 +1,7 @@
 //! The token buffer that a caller lends.
 
 use crate::lexer::Token;
-use cases::RECORD;
+use cases::{place_word, RECORD};
 
 /// What every word holds before a call.
 const UNTOUCHED: u32 = u32::MAX;
@@ -38,11 +38,11 @@ impl Buffer {
     }
 }
 
-/// A text of at most 16,384 bytes has no start, length, line or column that 32 bits cannot hold.
+/// "A text of 16,384 bytes cannot pass line or column 16,385", so that start, length and place have room in 32 bits.
 pub fn record(token: &Token) -> [u32; RECORD] {
     let word = |size: usize| u32::try_from(size).unwrap_or(UNTOUCHED);
     let place = token.place;
-    [token.kind as u32, token.number, word(token.start), word(token.length), place.line, place.column]
+    [token.kind as u32, token.number, word(token.start), word(token.length), place_word(place.line, place.column)]
 }
 
 #[cfg(test)]
@@ -51,18 +51,18 @@ mod tests {
 
     #[test]
     fn a_word_past_the_records_is_seen() {
-        let mut buffer = Buffer::new(15);
+        let mut buffer = Buffer::new(13);
         assert!(buffer.kept());
-        buffer.words[..7].copy_from_slice(&[1, 0, 0, 1, 1, 1, 2]);
+        buffer.words[..6].copy_from_slice(&[1, 0, 0, 1, 65_537, 2]);
         assert_eq!(buffer.records().len(), 2);
         assert!(buffer.kept());
-        buffer.words[14] = 0;
+        buffer.words[12] = 0;
         assert!(!buffer.kept());
-        buffer.words[6] = UNTOUCHED;
-        buffer.words[14] = UNTOUCHED;
-        assert_eq!(buffer.records(), [&[1, 0, 0, 1, 1, 1]]);
+        buffer.words[5] = UNTOUCHED;
+        buffer.words[12] = UNTOUCHED;
+        assert_eq!(buffer.records(), [&[1, 0, 0, 1, 65_537]]);
         assert!(buffer.kept());
-        buffer.words[7] = 0;
+        buffer.words[6] = 0;
         assert!(!buffer.kept());
     }
 }

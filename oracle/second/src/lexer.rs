@@ -2,9 +2,7 @@
 
 use crate::durations::Duration;
 use crate::refusal::{Place, Refusal};
-
-/// The most tokens of a text; a further one is refused with 19.
-pub const MOST_TOKENS: usize = 1_024;
+use cases::MOST_TOKENS;
 
 const MOST_RUN: u64 = 1_000_000_000;
 const MOST_PLACES: usize = 4;

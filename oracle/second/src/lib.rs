@@ -16,13 +16,12 @@ mod triggers;
 mod values;
 
 use buffer::Buffer;
-use cases::{Case, Lexing};
+use cases::{Case, Lexing, LEAST_WORDS};
 use model::Lists;
 use reader::{Read, Reader};
 use refusal::{Place, Refusal};
 
 const MOST_TEXT: usize = 16_384;
-const LEAST_WORDS: usize = 6_144;
 
 /// What one call leaves behind.
 struct Outcome<'a> {
@@ -93,7 +92,7 @@ fn admit<'a>(case: &'a Case, buffer: &Buffer) -> Read<(sheet::Sheet<'a>, &'a str
     Ok((sheet, text))
 }
 
-/// The questions 1 and 2.
+/// The questions 1 and 2; "the buffer at least 5,120 (question 2)", document 02 §5.
 fn room(text: &[u8], words: usize) -> Read<()> {
     if text.len() > MOST_TEXT {
         return Err(Refusal::new(1, Place::NONE));

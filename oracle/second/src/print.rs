@@ -20,8 +20,11 @@ pub fn answer(id: u64, buffer: &Buffer, result: &Read<Lists>) -> String {
     lines.iter().map(|line| format!("{line}\n")).collect()
 }
 
+/// "A token line gives line and column apart, however the record holds them."
 fn token(record: &[u32]) -> String {
-    record.iter().fold("token".to_string(), |line, word| format!("{line} {word}"))
+    let (place, words) = record.split_last().expect("a record has words");
+    let (line, column) = cases::line_and_column(*place);
+    words.iter().chain([&line, &column]).fold("token".to_string(), |line, word| format!("{line} {word}"))
 }
 
 /// NAME and TEXT: `x` and the bytes in lower-case hex.

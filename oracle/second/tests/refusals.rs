@@ -11,8 +11,8 @@ fn n01_to_04_and_their_order() {
     assert_eq!(verdict_of(&bad), "refused 1 0 0 0");
     let bad = Case { text: vec![0xFF; 16_384], ..bad };
     assert_eq!(verdict_of(&bad), "refused 2 0 0 0");
-    assert_eq!(verdict_of(&Case { words: 6_143, ..bad.clone() }), "refused 2 0 0 0");
-    let bad = Case { words: 6_144, ..bad };
+    assert_eq!(verdict_of(&Case { words: 5_119, ..bad.clone() }), "refused 2 0 0 0");
+    let bad = Case { words: 5_120, ..bad };
     assert_eq!(verdict_of(&bad), "refused 3 1 0 0");
     let bad = Case { sheet: b"primary,0".to_vec(), ..bad };
     assert_eq!(verdict_of(&bad), "refused 4 1 1 0");
@@ -330,5 +330,5 @@ fn the_domain() {
     assert!(!in_domain(&[b' '; 16_385], ALL));
     assert!(!in_domain(b"when mqtt", ALL));
     assert!(!in_domain(b"when http trigger if day", ALL));
-    assert!(!second::in_domain(&Case { words: 6_143, ..case(b"when http trigger", ALL.as_bytes()) }));
+    assert!(!second::in_domain(&Case { words: 5_119, ..case(b"when http trigger", ALL.as_bytes()) }));
 }

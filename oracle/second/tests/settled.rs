@@ -9,7 +9,7 @@ fn p01_the_buffer_on_refusal() {
     assert_eq!(count(b"when http \xFF", ALL), 0);
     assert_eq!(count(b"when http", "bad"), 0);
     assert_eq!(count(&[b' '; 16_385], ALL), 0);
-    let small = cases::Case { words: 6_143, ..case(b"when http", ALL.as_bytes()) };
+    let small = cases::Case { words: 5_119, ..case(b"when http", ALL.as_bytes()) };
     assert_eq!(second::answer(&small), "case 1\nbuffer kept\nrefused 2 0 0 0\n");
     assert_eq!(count(b"when http @", ALL), 2);
     assert_eq!(count(b"when http 5x then", ALL), 2);

@@ -90,15 +90,36 @@ fn numbers_with_zeros() {
 #[test]
 fn the_buffer_past_the_records() {
     let full = "(".repeat(1_024);
-    for words in [6_144, 6_145, 8_192] {
+    for words in [5_120, 5_121, 6_143, 6_144, 6_145, 8_192] {
         let case = Case { words, ..case(full.as_bytes(), ALL.as_bytes()) };
         assert_eq!(tokens(&case).len(), 1_024);
         assert_eq!(verdict_of(&case), "refused 38 1 1 0");
     }
-    for words in [0, 1, 5, 6, 6_143] {
+    for words in [0, 1, 5, 6, 5_119] {
         let case = Case { words, ..case(b"when http trigger", ALL.as_bytes()) };
         assert_eq!(second::answer(&case), "case 1\nbuffer kept\nrefused 2 0 0 0\n");
     }
+}
+
+/// Document 02 §5: "no place, the end's included, loses anything".
+#[test]
+fn the_farthest_places() {
+    let told = |text: String| (tokens(&case(text.as_bytes(), ALL.as_bytes())), verdict(&text));
+    let none = |refusal: &str| (Vec::new(), refusal.to_string());
+    assert_eq!(told(" ".repeat(16_384)), none("refused 38 1 16385 0"));
+    assert_eq!(told("\n".repeat(16_384)), none("refused 38 16385 1 0"));
+    let one = |token: &str, refusal: &str| (vec![token.to_string()], refusal.to_string());
+    assert_eq!(told(" ".repeat(16_383) + "("), one("7 0 16383 1 1 16384", "refused 38 1 16384 0"));
+    assert_eq!(told("\n".repeat(16_383) + "("), one("7 0 16383 1 16384 1", "refused 38 16384 1 0"));
+    assert_eq!(told(" ".repeat(16_380) + "when"), one("1 0 16380 4 1 16381", "refused 20 1 16385 0"));
+    let both = "\n".repeat(8_190) + &" ".repeat(8_190) + "when";
+    assert_eq!(told(both), one("1 0 16380 4 8191 8191", "refused 20 8191 8195 0"));
+}
+
+#[test]
+fn the_words_of_a_record() {
+    let (lexing, _) = second::lexing("a\n  \"é\"".as_bytes(), 5_120);
+    assert_eq!(lexing.records, [[1, 0, 0, 1, 65_537], [2, 0, 5, 2, 131_075]]);
 }
 
 /// Numbers that look random, the same in each run.
@@ -140,13 +161,13 @@ fn lexing_alone() {
         let (lexing, in_domain) = second::lexing(text, words);
         ((lexing.records.len(), lexing.number, lexing.line, lexing.column), in_domain)
     };
-    assert_eq!(lexing(b"a\n(", 6_144), ((2, 0, 2, 2), true));
-    assert_eq!(lexing(b"a 24:00", 6_144), ((1, 13, 1, 3), true));
+    assert_eq!(lexing(b"a\n(", 5_120), ((2, 0, 2, 2), true));
+    assert_eq!(lexing(b"a 24:00", 5_120), ((1, 13, 1, 3), true));
     assert_eq!(lexing(&[b' '; 16_385], 0), ((0, 1, 0, 0), false));
-    assert_eq!(lexing(b"a", 6_143), ((0, 2, 0, 0), false));
-    assert_eq!(lexing(&[b'('; 1_025], 6_144), ((1_024, 19, 1, 1_025), false));
-    assert_eq!(lexing(b"0.00000000000000000000s", 6_144), ((1, 0, 1, 24), false));
-    assert_eq!(lexing(b"0.00000000000000000001s", 6_144), ((0, 18, 1, 1), false));
-    assert_eq!(lexing(b"a \xFF @", 6_144), ((0, 4, 1, 3), false));
-    assert_eq!(lexing(b"\"\xC3\"", 6_144), ((0, 4, 1, 2), false));
+    assert_eq!(lexing(b"a", 5_119), ((0, 2, 0, 0), false));
+    assert_eq!(lexing(&[b'('; 1_025], 5_120), ((1_024, 19, 1, 1_025), false));
+    assert_eq!(lexing(b"0.00000000000000000000s", 5_120), ((1, 0, 1, 24), false));
+    assert_eq!(lexing(b"0.00000000000000000001s", 5_120), ((0, 18, 1, 1), false));
+    assert_eq!(lexing(b"a \xFF @", 5_120), ((0, 4, 1, 3), false));
+    assert_eq!(lexing(b"\"\xC3\"", 5_120), ((0, 4, 1, 2), false));
 }

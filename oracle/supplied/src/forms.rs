@@ -125,7 +125,7 @@ const OTHERS: &[&str] = &[
 ];
 
 fn case(text: &str) -> cases::Case {
-    cases::Case { id: 0, words: 6_144, text: text.into(), sheet: sheet().into() }
+    cases::Case { id: 0, words: cases::LEAST_WORDS, text: text.into(), sheet: sheet().into() }
 }
 
 /// Every form as a text.

@@ -24,9 +24,8 @@ use dali2rust_rules_model::{CompileError, Condition, Trigger};
 use std::fmt::Write;
 use std::str::Utf8Error;
 
-/// The longest text, and the smallest token buffer, that document 01 allows.
+/// The longest text that document 01 allows.
 const MOST_TEXT_BYTES: usize = 16_384;
-const LEAST_WORDS: usize = 6_144;
 
 /// Why a text is not taken: the number, place and detail of document 01.
 #[derive(Debug, Clone, Copy, PartialEq, Eq)]
@@ -108,7 +107,7 @@ fn judged(case: &cases::Case) -> (Vec<Record>, Verdict) {
     if case.text.len() > MOST_TEXT_BYTES {
         return refused(nowhere(1));
     }
-    if case.words < LEAST_WORDS {
+    if case.words < cases::LEAST_WORDS {
         return refused(nowhere(2));
     }
     let sheet = match Sheet::read(&case.sheet) {
@@ -199,11 +198,11 @@ mod tests {
 
     #[test]
     fn lexing_alone_gives_records_and_a_place() {
-        let lexing = |records: &[[u32; 6]], number, line, column| {
+        let lexing = |records: &[[u32; cases::RECORD]], number, line, column| {
             Some(cases::Lexing { records: records.to_vec(), number, line, column })
         };
-        assert_eq!(crate::lexing("\"é\"\n5s"), lexing(&[[2, 0, 1, 2, 1, 1], [5, 5_000, 5, 2, 2, 1]], 0, 2, 3));
-        assert_eq!(crate::lexing("a @"), lexing(&[[1, 0, 0, 1, 1, 1]], 10, 1, 3));
+        assert_eq!(crate::lexing("\"é\"\n5s"), lexing(&[[2, 0, 1, 2, 65_537], [5, 5_000, 5, 2, 131_073]], 0, 2, 3));
+        assert_eq!(crate::lexing("a @"), lexing(&[[1, 0, 0, 1, 65_537]], 10, 1, 3));
         assert_eq!(crate::lexing("0.00000000000000000000s"), None);
     }
 }

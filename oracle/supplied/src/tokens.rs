@@ -4,8 +4,8 @@
 
 use crate::lexer::{lex, Lexed, Pos, Token, TokenKind};
 use crate::{messages, places, Refusal};
+use cases::MOST_TOKENS;
 
-const MOST_TOKENS: usize = 1_024;
 /// From this many fractional digits on, the power of ten that `lex` takes does not fit in 64 bits.
 const OVERFLOWING_PLACES: usize = 20;
 /// The largest digit run that `lex` goes past.
@@ -21,10 +21,10 @@ pub struct Record {
 }
 
 impl Record {
-    /// The six words of document 01, in its order.
+    /// The words of a record, in document 02's order (§5).
     pub fn words(&self) -> [u32; cases::RECORD] {
         let word = |size: usize| u32::try_from(size).expect("a text is shorter than 2^32 bytes");
-        [self.kind, self.number, word(self.start), word(self.length), self.line, self.column]
+        [self.kind, self.number, word(self.start), word(self.length), cases::place_word(self.line, self.column)]
     }
 }
 

@@ -1,4 +1,4 @@
-//! A rule in the lines of the replay format.
+//! Tokens and a rule in the lines of the replay format.
 
 use tergyosul::*;
 
@@ -6,6 +6,12 @@ use tergyosul::*;
 fn hex(name: Name, text: &[u8]) -> String {
     let bytes = name.of(text).expect("a name lies in its text");
     bytes.iter().fold("x".to_string(), |field, byte| format!("{field}{byte:02x}"))
+}
+
+/// The line of a token.
+pub fn token(t: &Token) -> String {
+    let Token { kind, number, bytes: Name { start, length }, .. } = t;
+    format!("token {kind} {number} {start} {length} {} {}\n", t.line(), t.column())
 }
 
 fn reference(r: Ref) -> String {

@@ -9,7 +9,7 @@ use std::time::Instant;
 const USAGE: &str = "speed list                       names, bytes and tokens of the texts
 speed time                       nanoseconds for a call, the least of many rounds
 speed count LEXER TEXT CALLS     only calls; LEXER is proved or supplied";
-const WORDS: usize = 6_144;
+const WORDS: usize = cases::LEAST_WORDS;
 /// A round lasts about a millisecond, and there are so many of them.
 const ROUNDS: usize = 400;
 const ROUND_NANOSECONDS: u128 = 1_000_000;

@@ -11,8 +11,10 @@ fn question_1_the_text_is_not_too_long() {
 #[test]
 fn question_2_the_buffer_is_large_enough() {
     let mut small = case(b"\xff", b"");
-    small.words = 6_143;
+    small.words = 5_119;
     assert_eq!(told(&small).1, ["buffer kept", "refused 2 0 0 0"]);
+    small.words = 5_120;
+    assert_eq!(told(&small).1, ["buffer kept", "refused 3 1 0 0"]);
 }
 
 fn bad_line(sheet: &[u8]) -> String {

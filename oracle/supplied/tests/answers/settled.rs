@@ -10,7 +10,7 @@ fn full() -> String {
 #[test]
 fn point_1_records_on_refusal() {
     let mut small = case(b"when", b"primary,0");
-    small.words = 6_143;
+    small.words = 5_119;
     assert_eq!(told(&small), (vec![], vec!["buffer kept".into(), "refused 2 0 0 0".into()]));
     assert_eq!(records("a @ b"), ["1 0 0 1 1 1"]);
     assert_eq!(verdict("a @ b"), "refused 10 1 3 0");

@@ -10,7 +10,7 @@ use Rattle.text.specs.declared.place.Step.{Step}
 use Rattle.text.specs.declared.place.Step.the-variants.{Next, Stop}
 use Rattle.tokens.specs.Token.{look, tokenAt}
 use Rattle.tokens.specs.Record.{written}
-use Rattle.tokens.specs.Lex.{recordOf, Lexing, ended, refused, lexeme, lexAt, lexNoMore, behind, lexFrom, lexText, answerFrom, writtenFrom}
+use Rattle.tokens.specs.Lex.{recordOf, Lexing, ended, refused, lexeme, lexAt, lexNoMore, behind, lexFrom, lexText, answerFrom, writtenFrom, mostTokens}
 use Rattle.tokens.specs.declared.record.Record.{Record}
 use Rattle.tokens.specs.declared.lexer.Lexeme.{Lexeme}
 use Rattle.tokens.specs.declared.lexer.Lexeme.the-variants.{Token}
@@ -21,10 +21,10 @@ use Rattle.tokens.proofs.lexer.lex_all.Tie as tie
 
 -- at p, with count records in the words: what is left to read gives the answer and the words of the whole text
 record Going (s words₀ words : List ℕ) (p : Place) (count : ℕ) : Type 0 where
-  room : count ≤ 1024
+  room : count ≤ mostTokens
   long : length words ≡ length words₀
-  answer : answerFrom 0 (lexText s) ≡ answerFrom count (lexFrom (1024 - count) s p)
-  stored : writtenFrom 0 words₀ (lexText s) ≡ writtenFrom count words (lexFrom (1024 - count) s p)
+  answer : answerFrom 0 (lexText s) ≡ answerFrom count (lexFrom (mostTokens - count) s p)
+  stored : writtenFrom 0 words₀ (lexText s) ≡ writtenFrom count words (lexFrom (mostTokens - count) s p)
 
 -- what is promised
 record Done (s words₀ words : List ℕ) (r : Lexed) : Type 0 where
@@ -41,7 +41,7 @@ begin s words p e = record { room = omega arith; long = refl; answer = rw e; sto
 
 -- what is left to read is l, which writes no more
 finish : {s words₀ words : List ℕ} {p : Place} {count : ℕ} (l : Lexing) {r : Lexed} → Going s words₀ words p count →
-    lexFrom (1024 - count) s p ≡ l → r ≡ answerFrom count l → words ≡ writtenFrom count words l → Done s words₀ words r
+    lexFrom (mostTokens - count) s p ≡ l → r ≡ answerFrom count l → words ≡ writtenFrom count words l → Done s words₀ words r
 finish l g e h k =
     record {
       answer = h ∙ sym (g .answer ∙ ap (answerFrom _) e);
@@ -60,23 +60,23 @@ module _ {s words₀ words : List ℕ} {p q : Place} {count : ℕ} {a : Step} (g
   at-end : {r : Lexed} → a ≡ Stop → r ≡ Tokens count (q .line) (q .column) → Done s words₀ words r
   unfolding answerFrom writtenFrom
   at-end m e =
-      finish (ended q) going (from-stop (1024 - count) s p (rw skipped at (sym seen ∙ m)) ∙ ap ended (sym skipped)) e refl
+      finish (ended q) going (from-stop (mostTokens - count) s p (rw skipped at (sym seen ∙ m)) ∙ ap ended (sym skipped)) e refl
 
   module _ {c : ℕ} {next : Place} (here : a ≡ Next c next) where
     -- a token after 1,024
-    full : {r : Lexed} → count ≡ 1024 → r ≡ Refused 19 (q .line) (q .column) → Done s words₀ words r
+    full : {r : Lexed} → count ≡ mostTokens → r ≡ Refused 19 (q .line) (q .column) → Done s words₀ words r
     unfolding lexFrom answerFrom writtenFrom
     full h e =
-        let n : 1024 - count ≡ 0 = omega arith in
+        let n : mostTokens - count ≡ 0 = omega arith in
         finish (refused 19 q) going (rw (n, ← skipped, sym seen ∙ here)) e refl
 
     -- x is the token, or its refusal
-    module _ {x : Lexeme} (left : count ≡ 1024 → ⊥) (read : x ≡ tokenAt s q c next) where
-      from-token : lexFrom (1024 - count) s p ≡ lexeme q x (lexFrom (1024 - (count + 1)) s)
+    module _ {x : Lexeme} (left : count ≡ mostTokens → ⊥) (read : x ≡ tokenAt s q c next) where
+      from-token : lexFrom (mostTokens - count) s p ≡ lexeme q x (lexFrom (mostTokens - (count + 1)) s)
       unfolding lexFrom
       from-token =
           let i = going .room in
-          let n : 1024 - count ≡ suc (1024 - (count + 1)) = omega arith in
+          let n : mostTokens - count ≡ suc (mostTokens - (count + 1)) = omega arith in
           rw (n, ← skipped, sym seen ∙ here, read)
 
       no-token : {number : ℕ} {r : Lexed} → x ≡ Lexeme.Refused number → r ≡ Refused number (q .line) (q .column) → Done s words₀ words r
@@ -89,7 +89,7 @@ module _ {s words₀ words : List ℕ} {p q : Place} {count : ℕ} {a : Step} (g
       unfolding answerFrom writtenFrom
       go-on k u w z =
           let i = going .room in
-          let l = from-token ∙ ap (λ (x : Lexeme). lexeme q x (lexFrom (1024 - (count + 1)) s)) k in
+          let l = from-token ∙ ap (λ (x : Lexeme). lexeme q x (lexFrom (mostTokens - (count + 1)) s)) k in
           record {
             room = omega arith;
             long = z ∙ going .long;
@@ -101,10 +101,10 @@ abbrev Inv-loop : tie.InvT-loop
 Inv-loop s words₀ p₀ count₀ words p count = Going s words₀ words p count
 
 abbrev μ-loop : tie.MeasureT-loop
-μ-loop s words₀ p₀ count₀ words p count = 1024 - count
+μ-loop s words₀ p₀ count₀ words p count = mostTokens - count
 
 -- a token was read, so the count was below 1,024
-below : (c : tie.After-slice-known2 Inv-loop μ-loop) → c .before .before .before .before .before .before .before .before .before .before .before .before .before .before .before .loop .count < 1024
+below : (c : tie.After-slice-known2 Inv-loop μ-loop) → c .before .before .before .before .before .before .before .before .before .before .before .before .before .before .before .loop .count < mostTokens
 below c =
     let b = c .before .before .before .before .before .before .before .before .before in
     omega (arith, b .if1 .left, b .before .before .before .before .before .before .loop .inv .room)

@@ -1,0 +1,128 @@
+-- Document 02, §5: "for buffers of 6,144 words or more every place reported is the same as before". A call answers alike in all buffers that are
+-- long enough, and in those that were long enough before as it did with records of six words (Rattle.tokens.proofs.FormerLaws).
+use Prim.Native.Nat.{ℕ, _+_, _≤_}
+use mathlib.Core.Path.{_≡_, refl, ap, fun-ext}
+use mathlib.Core.Bool.{Bool, true, false}
+use mathlib.Core.List.{List}
+use lib.ListN.{length}
+use lib.Dec.{ltb}
+use borrow.Author.Tests.{le-ltb, ltb-false}
+use Rattle.text.specs.Choice.{pick}
+use Rattle.text.specs.Part.{partOf}
+use Rattle.text.specs.Place.{checkOf}
+use Rattle.text.specs.declared.place.Checked.{Checked}
+use Rattle.text.specs.declared.place.Checked.the-variants.{WellFormed, IllFormed}
+use Rattle.tokens.specs.Result.{Res}
+use Rattle.tokens.specs.Record.{bytesAt}
+use Rattle.tokens.specs.Cursor.{Tok, bytesOf, tokens}
+use Rattle.tokens.specs.Lex.{Lexing, ended, refused, token, lexText, mostBytes, leastWords}
+use Rattle.tokens.specs.Ended.{recordWords}
+use Rattle.tokens.specs.Placed.{recordAt}
+use Rattle.tokens.specs.declared.record.Record.{Record}
+use Rattle.tokens.proofs.FormerLaws.{formerLeastWords, former-room, formerWords, formerCapacity, formerRecordAt, same-records, same-count}
+use Rattle.sheet.specs.Sheet.{sheetCheck}
+use Rattle.sheet.specs.View.{View}
+use Rattle.sheet.specs.declared.rows.Sheet.{Sheet}
+use Rattle.model.specs.Lists.{refusedWith}
+use Rattle.model.specs.declared.Name.{Name}
+use Rattle.model.specs.declared.Answer.{Answer}
+use Rattle.language.specs.Range.{rangeOf}
+use Rattle.language.specs.Section.{Lists, ruleAt}
+use Rattle.language.specs.Read.{parsed, ruleOf, lexedFrom, byText, bySheet, seen, readOf}
+
+-- ---- buffers of different lengths
+
+module _ (text sheet words other : List ℕ) where
+  same-text : (c : Checked) → byText text (seen sheet) words c .answer ≡ byText text (seen sheet) other c .answer
+  unfolding byText
+  same-text WellFormed = refl
+  same-text (IllFormed line column) = refl
+
+  same-sheet : (x : Sheet) → bySheet text (seen sheet) words x .answer ≡ bySheet text (seen sheet) other x .answer
+  unfolding bySheet
+  same-sheet Sheet.WellFormed = same-text (checkOf text)
+  same-sheet (Sheet.BadLine n) = refl
+
+  same-asked : (long : Bool) →
+      pick long (record { answer = refusedWith 1 0 0 0; buffer = words }) (bySheet text (seen sheet) words (sheetCheck sheet)) .answer ≡
+      pick long (record { answer = refusedWith 1 0 0 0; buffer = other }) (bySheet text (seen sheet) other (sheetCheck sheet)) .answer
+  same-asked true = refl
+  same-asked false = same-sheet (sheetCheck sheet)
+
+  pub same-answer : leastWords ≤ length words → leastWords ≤ length other → readOf text sheet words .answer ≡ readOf text sheet other .answer
+  unfolding readOf
+  same-answer room space =
+      rw (le-ltb (length words) leastWords room, le-ltb (length other) leastWords space) (same-asked (ltb mostBytes (length text)))
+
+-- ---- the former call: what specs/Read.antt says, over records of six words
+
+abbrev pub tokenOf : List ℕ → Record → Tok
+tokenOf text r =
+    record { kind = r .kind; number = r .number; bytes = bytesOf (r .kind) (partOf text (r .start) (r .start + r .length)) }
+
+abbrev pub rangeIn : Record → Name
+rangeIn r = record { start = r .start; length = r .length }
+
+unfoldable pub formerRuleOf : List ℕ → List ℕ → View → Res Lists
+formerRuleOf text words view =
+    ruleAt (λ i. tokenOf text (formerRecordAt words i)) view (λ i. rangeIn (formerRecordAt words i)) (formerCapacity words)
+
+unfoldable pub formerLexedFrom : List ℕ → View → Lexing → Lexing → Answer
+formerLexedFrom text view whole (ended p) = parsed whole (formerRuleOf text (formerWords whole) view)
+formerLexedFrom text view whole (refused number p) = refusedWith number (p .line) (p .column) 0
+formerLexedFrom text view whole (token r l) = formerLexedFrom text view whole l
+
+unfoldable pub formerByText : List ℕ → View → Checked → Answer
+formerByText text view WellFormed = formerLexedFrom text view (lexText text) (lexText text)
+formerByText text view (IllFormed line column) = refusedWith 4 line column 0
+
+unfoldable pub formerBySheet : List ℕ → View → Sheet → Answer
+formerBySheet text view Sheet.WellFormed = formerByText text view (checkOf text)
+formerBySheet text view (Sheet.BadLine n) = refusedWith 3 n 0 0
+
+unfoldable pub formerAnswer : List ℕ → List ℕ → ℕ → Answer
+formerAnswer text sheet size =
+    pick (ltb mostBytes (length text)) (refusedWith 1 0 0 0)
+    (pick (ltb size formerLeastWords) (refusedWith 2 0 0 0) (formerBySheet text (seen sheet) (sheetCheck sheet)))
+
+-- ---- it answered the same
+
+module _ (text : List ℕ) (view : View) (words : List ℕ) (short : length text ≤ mostBytes) where
+  former-rule : ruleOf text (recordWords (lexText text)) view ≡ formerRuleOf text (formerWords (lexText text)) view
+  unfolding ruleOf tokens rangeOf bytesAt recordAt formerRuleOf
+  former-rule =
+      let now = recordWords (lexText text) in
+      let then = formerWords (lexText text) in
+      let toks : tokens text now ≡ (λ (i : ℕ). tokenOf text (formerRecordAt then i)) =
+      fun-ext (λ i. ap (tokenOf text) (same-records text short i)) in
+      let ranges : rangeOf now ≡ (λ (i : ℕ). rangeIn (formerRecordAt then i)) = fun-ext (λ i. ap rangeIn (same-records text short i)) in
+      rw (toks, ranges, same-count (lexText text))
+
+  former-lexed : (l : Lexing) → lexedFrom text view (lexText text) l ≡ formerLexedFrom text view (lexText text) l
+  unfolding lexedFrom formerLexedFrom
+  former-lexed (ended p) = ap (parsed (lexText text)) former-rule
+  former-lexed (refused number p) = refl
+  former-lexed (token r l) = former-lexed l
+
+  former-text : (c : Checked) → byText text view words c .answer ≡ formerByText text view c
+  unfolding byText formerByText
+  former-text WellFormed = former-lexed (lexText text)
+  former-text (IllFormed line column) = refl
+
+  former-sheet : (x : Sheet) → bySheet text view words x .answer ≡ formerBySheet text view x
+  unfolding bySheet formerBySheet
+  former-sheet Sheet.WellFormed = former-text (checkOf text)
+  former-sheet (Sheet.BadLine n) = refl
+
+former-asked : (text sheet words : List ℕ) (long : Bool) → (long ≡ false → length text ≤ mostBytes) →
+    pick long (record { answer = refusedWith 1 0 0 0; buffer = words }) (bySheet text (seen sheet) words (sheetCheck sheet)) .answer ≡
+    pick long (refusedWith 1 0 0 0) (formerBySheet text (seen sheet) (sheetCheck sheet))
+former-asked text sheet words true short = refl
+former-asked text sheet words false short = former-sheet text (seen sheet) words (short refl) (sheetCheck sheet)
+
+pub as-before : (text sheet words : List ℕ) → formerLeastWords ≤ length words →
+    readOf text sheet words .answer ≡ formerAnswer text sheet (length words)
+unfolding readOf formerAnswer
+as-before text sheet words room =
+    rw (le-ltb (length words) leastWords (former-room room), le-ltb (length words) formerLeastWords room)
+    (former-asked text sheet words (ltb mostBytes (length text)) (ltb-false mostBytes (length text)))
