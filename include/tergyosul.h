@@ -175,11 +175,21 @@ enum tergyosul_reading {
 /*
  * Reads a rule text with a name sheet. The result is 0, or the number of the refusal, or TERGYOSUL_NO_ROOM. The whole answer
  * goes to answer, and the records of the tokens go to words, as above; with refusals 1 to 4 these are left as they are.
+ * An argument of `input(` that sets one already set is refused with 63, at its first token.
  */
 uint32_t tergyosul_read(const uint8_t *text, size_t text_length,
                         const uint8_t *sheet, size_t sheet_length,
                         uint32_t *words, size_t words_length,
                         uint32_t *answer, size_t answer_length);
+
+/*
+ * The archive loader's call: a repeated argument of `input(` replaces the earlier one. Everything else is as with
+ * tergyosul_read: where that one's answer is not refusal 63, this one's is the same, and so are the words.
+ */
+uint32_t tergyosul_read_archive(const uint8_t *text, size_t text_length,
+                                const uint8_t *sheet, size_t sheet_length,
+                                uint32_t *words, size_t words_length,
+                                uint32_t *answer, size_t answer_length);
 
 /*
  * Lexes a text alone: questions 1, 2 and 4, then 10 to 19. The records of its tokens go to words, as above; with refusals 1,

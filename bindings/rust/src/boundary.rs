@@ -1,4 +1,4 @@
-//! The two calls of the C library, and all that is unsafe in this crate.
+//! The three calls of the C library, and all that is unsafe in this crate.
 //!
 //! `include/tergyosul.h` asks four things of a caller. Each holds for every call from here, because the pointers and lengths
 //! are those of slices that are borrowed while the call runs:
@@ -15,6 +15,17 @@
 
 extern "C" {
     fn tergyosul_read(
+        text: *const u8,
+        text_length: usize,
+        sheet: *const u8,
+        sheet_length: usize,
+        words: *mut u32,
+        words_length: usize,
+        answer: *mut u32,
+        answer_length: usize,
+    ) -> u32;
+
+    fn tergyosul_read_archive(
         text: *const u8,
         text_length: usize,
         sheet: *const u8,
@@ -42,6 +53,22 @@ pub fn read(text: &[u8], sheet: &[u8], words: &mut [u32], answer: &mut [u32]) ->
     // SAFETY: as above: four slices that are borrowed for the call, the two mutable ones apart from all others.
     unsafe {
         tergyosul_read(
+            text.as_ptr(),
+            text.len(),
+            sheet.as_ptr(),
+            sheet.len(),
+            words.as_mut_ptr(),
+            words.len(),
+            answer.as_mut_ptr(),
+            answer.len(),
+        )
+    }
+}
+
+pub fn read_archive(text: &[u8], sheet: &[u8], words: &mut [u32], answer: &mut [u32]) -> u32 {
+    // SAFETY: as above: four slices that are borrowed for the call, the two mutable ones apart from all others.
+    unsafe {
+        tergyosul_read_archive(
             text.as_ptr(),
             text.len(),
             sheet.as_ptr(),

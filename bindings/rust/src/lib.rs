@@ -48,8 +48,8 @@ pub use rule::{
 };
 pub use token::{tokens, Token, RECORD_WORDS};
 
-/// How many words a caller lends for the tokens of a text, at least: 1,024 records. With fewer [`read`] and [`lex`] give
-/// refusal 2.
+/// How many words a caller lends for the tokens of a text, at least: 1,024 records. With fewer [`read`], [`read_archive`] and
+/// [`lex`] give refusal 2.
 pub const TOKEN_WORDS: usize = 1_024 * RECORD_WORDS;
 
 /// The length of an answer of the library's `tergyosul_lex`.
@@ -58,7 +58,7 @@ const LEX_WORDS: usize = 4;
 /// Reads a rule text with a name sheet.
 ///
 /// The records of the tokens go to `words`, from which [`tokens`] takes them; with refusals 1 to 4 these are left as they are.
-/// What the words hold before plays no part.
+/// What the words hold before plays no part. An argument of `input(` that sets one already set is refused with 63.
 ///
 /// # Panics
 ///
@@ -67,6 +67,35 @@ const LEX_WORDS: usize = 4;
 pub fn read(text: &[u8], sheet: &[u8], words: &mut [u32]) -> Result<Rule, Refusal> {
     let mut answer = [0; layout::ANSWER_WORDS];
     let number = boundary::read(text, sheet, words, &mut answer);
+    with_room(number)?;
+    layout::rule(&answer)
+}
+
+/// Reads a rule text with a name sheet as the archive loader does: a repeated argument of `input(` replaces the earlier one.
+/// Everything else is as with [`read`]: what that one does not refuse with 63 is answered alike.
+///
+/// ```
+/// use tergyosul::{Event, Ref, Selector, Trigger};
+///
+/// let text = b"when input(dev=3, dev=5, inst=0) is press";
+/// let sheet = b"primary,0\n";
+/// let mut words = [0; tergyosul::TOKEN_WORDS];
+///
+/// let refusal = tergyosul::read(text, sheet, &mut words).unwrap_err();
+/// assert_eq!((refusal.number, refusal.line, refusal.column), (63, 1, 19));
+///
+/// let rule = tergyosul::read_archive(text, sheet, &mut words)?;
+/// let five = Ref { adapter: 0, number: 5 };
+/// assert_eq!(rule.triggers(), [Trigger::InputEvent(Selector::Instance(five, 0), Event::Press)]);
+/// # Ok::<(), tergyosul::Refusal>(())
+/// ```
+///
+/// # Panics
+///
+/// As [`read`].
+pub fn read_archive(text: &[u8], sheet: &[u8], words: &mut [u32]) -> Result<Rule, Refusal> {
+    let mut answer = [0; layout::ANSWER_WORDS];
+    let number = boundary::read_archive(text, sheet, words, &mut answer);
     with_room(number)?;
     layout::rule(&answer)
 }

@@ -1,7 +1,8 @@
 //! Every kind, code and choice of the layout, by calls of the library: the words of the answer, and the value they become.
 
 use crate::rule::*;
-use crate::{boundary, layout, lex, read, tokens, with_room, Refusal, Token, LEX_WORDS, RECORD_WORDS, TOKEN_WORDS};
+use crate::{boundary, layout, lex, read, read_archive, tokens, with_room};
+use crate::{Refusal, Token, LEX_WORDS, RECORD_WORDS, TOKEN_WORDS};
 use std::format;
 use std::string::{String, ToString};
 use std::vec::Vec;
@@ -458,6 +459,34 @@ fn a_detail_comes_with_its_refusal() {
     assert_eq!(refusal.to_string(), "1:11: several rows on one adapter have the name, 2 rows (refusal 33)");
 }
 
+/// Both calls write the same records; only what they say of the repeat differs.
+#[test]
+fn a_repeat_is_refused_but_for_the_archive() {
+    let text = b"when input(dev=3, dev=5, inst=0) is press";
+    let [mut words, mut archive_words] = [[9; TOKEN_WORDS]; 2];
+    let refusal = read(text, SHEET, &mut words).unwrap_err();
+    assert_eq!(refusal, Refusal { number: 63, line: 1, column: 19, detail: 0 });
+    assert_eq!(refusal.to_string(), "1:19: an argument is given a second time (refusal 63)");
+    let rule = read_archive(text, SHEET, &mut archive_words).unwrap();
+    assert_eq!(rule.triggers(), [Trigger::InputEvent(Selector::Instance(DOOR, 0), Event::Press)]);
+    assert_eq!(words, archive_words);
+}
+
+/// The calls answer alike, in every word, where `read` does not say 63.
+#[test]
+fn without_a_repeat_the_calls_are_alike() {
+    let refused = [&b"when input(dev=1, foo=2) is press"[..], b"when input(1, 2, 3) is press", b"when @", b"when \xFF", b"when"];
+    let accepted = [&b"when input(dev=5, inst=0) is press"[..], b"when lamp(\"Till\") turns on"];
+    for text in refused.into_iter().chain(accepted) {
+        let [mut words, mut archive_words] = [[9; TOKEN_WORDS]; 2];
+        let [mut answer, mut archive_answer] = [[7; layout::ANSWER_WORDS + 1]; 2];
+        let number = boundary::read(text, SHEET, &mut words, &mut answer);
+        assert_eq!(boundary::read_archive(text, SHEET, &mut archive_words, &mut archive_answer), number);
+        assert_eq!((words, answer), (archive_words, archive_answer));
+        assert_eq!(number == 0, accepted.contains(&text));
+    }
+}
+
 /// Nothing is read and nothing is written, be the text accepted or refused, the sheet bad, or the words too few.
 #[test]
 fn no_room_for_the_answer() {
@@ -467,6 +496,7 @@ fn no_room_for_the_answer() {
         assert_eq!(boundary::read(text, sheet, &mut words, &mut answer), boundary::NO_ROOM);
         assert_eq!(boundary::read(text, sheet, &mut words, &mut []), boundary::NO_ROOM);
         assert_eq!(boundary::read(text, sheet, &mut [], &mut answer), boundary::NO_ROOM);
+        assert_eq!(boundary::read_archive(text, sheet, &mut words, &mut answer), boundary::NO_ROOM);
     }
     for text in [&b"when http trigger"[..], b"when @"] {
         assert_eq!(boundary::lex(text, &mut words, &mut answer[..LEX_WORDS - 1]), boundary::NO_ROOM);
@@ -553,12 +583,12 @@ fn lexing_refuses_what_is_not_utf8() {
 #[test]
 fn every_refusal_has_its_own_meaning() {
     let refusal = |number| Refusal { number, line: 2, column: 3, detail: 4 };
-    let known = |number| matches!(number, 1..=4 | 10..=13 | 15..=41);
+    let known = |number| matches!(number, 1..=4 | 10..=13 | 15..=41 | 63);
     let mut meanings: Vec<&str> = (0..100).filter(|&n| known(n)).map(|n| refusal(n).meaning()).collect();
-    assert_eq!(meanings.len(), 35);
+    assert_eq!(meanings.len(), 36);
     meanings.sort();
     meanings.dedup();
-    assert_eq!(meanings.len(), 35);
+    assert_eq!(meanings.len(), 36);
     let unknown = refusal(0).meaning();
     assert!((0..100).all(|n| known(n) != (refusal(n).meaning() == unknown)));
     assert_eq!(refusal(3).to_string(), "sheet line 2: the sheet is not well formed (refusal 3)");

@@ -22,6 +22,7 @@ use Rattle.tokens.specs.declared.record.Record.{Record}
 use Rattle.tokens.proofs.FormerLaws.{formerLeastWords, former-room, formerWords, formerCapacity, formerRecordAt, same-records, same-count}
 use Rattle.sheet.specs.Sheet.{sheetCheck}
 use Rattle.sheet.specs.View.{View}
+use Rattle.sheet.specs.declared.Habit.{Habit}
 use Rattle.sheet.specs.declared.rows.Sheet.{Sheet}
 use Rattle.model.specs.Lists.{refusedWith}
 use Rattle.model.specs.declared.Name.{Name}
@@ -32,24 +33,24 @@ use Rattle.language.specs.Read.{parsed, ruleOf, lexedFrom, byText, byShe
 
 -- ---- buffers of different lengths
 
-module _ (text sheet words other : List ℕ) where
-  same-text : (c : Checked) → byText text (seen sheet) words c .answer ≡ byText text (seen sheet) other c .answer
+module _ (habit : Habit) (text sheet words other : List ℕ) where
+  same-text : (c : Checked) → byText text (seen habit sheet) words c .answer ≡ byText text (seen habit sheet) other c .answer
   unfolding byText
   same-text WellFormed = refl
   same-text (IllFormed line column) = refl
 
-  same-sheet : (x : Sheet) → bySheet text (seen sheet) words x .answer ≡ bySheet text (seen sheet) other x .answer
+  same-sheet : (x : Sheet) → bySheet text (seen habit sheet) words x .answer ≡ bySheet text (seen habit sheet) other x .answer
   unfolding bySheet
   same-sheet Sheet.WellFormed = same-text (checkOf text)
   same-sheet (Sheet.BadLine n) = refl
 
   same-asked : (long : Bool) →
-      pick long (record { answer = refusedWith 1 0 0 0; buffer = words }) (bySheet text (seen sheet) words (sheetCheck sheet)) .answer ≡
-      pick long (record { answer = refusedWith 1 0 0 0; buffer = other }) (bySheet text (seen sheet) other (sheetCheck sheet)) .answer
+      pick long (record { answer = refusedWith 1 0 0 0; buffer = words }) (bySheet text (seen habit sheet) words (sheetCheck sheet)) .answer ≡
+      pick long (record { answer = refusedWith 1 0 0 0; buffer = other }) (bySheet text (seen habit sheet) other (sheetCheck sheet)) .answer
   same-asked true = refl
   same-asked false = same-sheet (sheetCheck sheet)
 
-  pub same-answer : leastWords ≤ length words → leastWords ≤ length other → readOf text sheet words .answer ≡ readOf text sheet other .answer
+  pub same-answer : leastWords ≤ length words → leastWords ≤ length other → readOf habit text sheet words .answer ≡ readOf habit text sheet other .answer
   unfolding readOf
   same-answer room space =
       rw (le-ltb (length words) leastWords room, le-ltb (length other) leastWords space) (same-asked (ltb mostBytes (length text)))
@@ -80,10 +81,10 @@ unfoldable pub formerBySheet : List ℕ → View → Sheet → Answer
 formerBySheet text view Sheet.WellFormed = formerByText text view (checkOf text)
 formerBySheet text view (Sheet.BadLine n) = refusedWith 3 n 0 0
 
-unfoldable pub formerAnswer : List ℕ → List ℕ → ℕ → Answer
-formerAnswer text sheet size =
+unfoldable pub formerAnswer : Habit → List ℕ → List ℕ → ℕ → Answer
+formerAnswer habit text sheet size =
     pick (ltb mostBytes (length text)) (refusedWith 1 0 0 0)
-    (pick (ltb size formerLeastWords) (refusedWith 2 0 0 0) (formerBySheet text (seen sheet) (sheetCheck sheet)))
+    (pick (ltb size formerLeastWords) (refusedWith 2 0 0 0) (formerBySheet text (seen habit sheet) (sheetCheck sheet)))
 
 -- ---- it answered the same
 
@@ -114,15 +115,15 @@ module _ (text : List ℕ) (view : View) (words : List ℕ) (short : length text
   former-sheet Sheet.WellFormed = former-text (checkOf text)
   former-sheet (Sheet.BadLine n) = refl
 
-former-asked : (text sheet words : List ℕ) (long : Bool) → (long ≡ false → length text ≤ mostBytes) →
-    pick long (record { answer = refusedWith 1 0 0 0; buffer = words }) (bySheet text (seen sheet) words (sheetCheck sheet)) .answer ≡
-    pick long (refusedWith 1 0 0 0) (formerBySheet text (seen sheet) (sheetCheck sheet))
-former-asked text sheet words true short = refl
-former-asked text sheet words false short = former-sheet text (seen sheet) words (short refl) (sheetCheck sheet)
+former-asked : (habit : Habit) (text sheet words : List ℕ) (long : Bool) → (long ≡ false → length text ≤ mostBytes) →
+    pick long (record { answer = refusedWith 1 0 0 0; buffer = words }) (bySheet text (seen habit sheet) words (sheetCheck sheet)) .answer ≡
+    pick long (refusedWith 1 0 0 0) (formerBySheet text (seen habit sheet) (sheetCheck sheet))
+former-asked habit text sheet words true short = refl
+former-asked habit text sheet words false short = former-sheet text (seen habit sheet) words (short refl) (sheetCheck sheet)
 
-pub as-before : (text sheet words : List ℕ) → formerLeastWords ≤ length words →
-    readOf text sheet words .answer ≡ formerAnswer text sheet (length words)
+pub as-before : (habit : Habit) (text sheet words : List ℕ) → formerLeastWords ≤ length words →
+    readOf habit text sheet words .answer ≡ formerAnswer habit text sheet (length words)
 unfolding readOf formerAnswer
-as-before text sheet words room =
+as-before habit text sheet words room =
     rw (le-ltb (length words) leastWords (former-room room), le-ltb (length words) formerLeastWords room)
-    (former-asked text sheet words (ltb mostBytes (length text)) (ltb-false mostBytes (length text)))
+    (former-asked habit text sheet words (ltb mostBytes (length text)) (ltb-false mostBytes (length text)))

@@ -23,10 +23,11 @@ use Rattle.tokens.proofs.LayoutLaws.{laid}
 use Rattle.tokens.proofs.HoldsLaws.{lexical-late, records-held, asked-held}
 use Rattle.sheet.specs.Sheet.{sheetCheck}
 use Rattle.sheet.specs.View.{View}
+use Rattle.sheet.specs.declared.Habit.{Habit}
 use Rattle.sheet.specs.declared.rows.Sheet.{Sheet}
 use Rattle.model.specs.Lists.{acceptedWith, refusedWith}
 use Rattle.model.specs.declared.Answer.{Answer}
-use Rattle.references.proofs.NumberLaws.{Refuses}
+use Rattle.references.proofs.NumberLaws.{Refuses, refusal-least}
 use Rattle.language.specs.Range.{rangeOf}
 use Rattle.language.specs.Section.{Lists}
 use Rattle.language.specs.Read.{parsed, ruleOf, lexedFrom, byText, bySheet, Outcome, seen, readOf}
@@ -36,7 +37,9 @@ use Rattle.language.proofs.RefusalLaws.{rule-refuses}
 parsed-late : (l : Lexing) (m : Res Lists) → Refuses m → within 1 4 (parsed l m .number) ≡ false
 unfolding parsed acceptedWith refusedWith Refuses
 parsed-late l (ok lists j) h = refl
-parsed-late l (no r) h = rw (le-leb 1 (r .number) (omega (arith, h .0)), lt-leb (r .number) 4 (omega (arith, h .0)))
+parsed-late l (no r) h =
+    let least = refusal-least (r .number) h in
+    rw (le-leb 1 (r .number) (omega arith), lt-leb (r .number) 4 (omega arith))
 
 lexed-late : {text : List ℕ} {before : List Character} (view : View) (whole : Lexing) {l : Lexing} → Laid text before l →
     within 1 4 (lexedFrom text view whole l .number) ≡ false
@@ -47,16 +50,16 @@ lexed-late {text} view whole (end gap t h) =
 lexed-late view whole (refusal gap c rest t h n) = lexical-late n
 lexed-late view whole (next gap u rest t s h k) = lexed-late view whole k
 
-module _ (text sheet words : List ℕ) where
+module _ (habit : Habit) (text sheet words : List ℕ) where
   abbrev Held : Outcome → Type 0
   Held o = Holds (frontOf (o .answer .number) text) words (o .buffer)
 
-  text-held : leastWords ≤ length words → (c : Checked) → Held (byText text (seen sheet) words c)
+  text-held : leastWords ≤ length words → (c : Checked) → Held (byText text (seen habit sheet) words c)
   unfolding byText refusedWith frontOf
-  text-held room WellFormed = rw (lexed-late (seen sheet) (lexText text) (laid text)) (records-held text words room)
+  text-held room WellFormed = rw (lexed-late (seen habit sheet) (lexText text) (laid text)) (records-held text words room)
   text-held room (IllFormed line column) = asked-held 4 text words refl
 
-  sheet-held : leastWords ≤ length words → (x : Sheet) → Held (bySheet text (seen sheet) words x)
+  sheet-held : leastWords ≤ length words → (x : Sheet) → Held (bySheet text (seen habit sheet) words x)
   unfolding bySheet refusedWith
   sheet-held room Sheet.WellFormed = text-held room (checkOf text)
   sheet-held room (Sheet.BadLine n) = asked-held 3 text words refl
@@ -64,17 +67,17 @@ module _ (text sheet words : List ℕ) where
   asked-first : (t u : Bool) → (u ≡ false → leastWords ≤ length words) →
       Held
       (pick t (record { answer = refusedWith 1 0 0 0; buffer = words })
-      (pick u (record { answer = refusedWith 2 0 0 0; buffer = words }) (bySheet text (seen sheet) words (sheetCheck sheet))))
+      (pick u (record { answer = refusedWith 2 0 0 0; buffer = words }) (bySheet text (seen habit sheet) words (sheetCheck sheet))))
   unfolding refusedWith
   asked-first true u h = asked-held 1 text words refl
   asked-first false true h = asked-held 2 text words refl
   asked-first false false h = sheet-held (h refl) (sheetCheck sheet)
 
-  read-held : Held (readOf text sheet words)
+  read-held : Held (readOf habit text sheet words)
   unfolding readOf
   read-held = asked-first (ltb mostBytes (length text)) (ltb (length words) leastWords) (ltb-false (length words) leastWords)
 
 -- of what a call that answers x left in the words
-pub read-holds : (text sheet words : List ℕ) {x : Answer} {exit : List ℕ} → x ≡ readOf text sheet words .answer →
-    exit ≡ readOf text sheet words .buffer → Holds (frontOf (x .number) text) words exit
-read-holds text sheet words e f = rw (e, f) (read-held text sheet words)
+pub read-holds : (habit : Habit) (text sheet words : List ℕ) {x : Answer} {exit : List ℕ} → x ≡ readOf habit text sheet words .answer →
+    exit ≡ readOf habit text sheet words .buffer → Holds (frontOf (x .number) text) words exit
+read-holds habit text sheet words e f = rw (e, f) (read-held habit text sheet words)

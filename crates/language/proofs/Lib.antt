@@ -9,6 +9,7 @@ pub mod TextLaws
 pub mod RefusalLaws
 pub mod RangeLaws
 pub mod FuelLaws
+pub mod HabitLaws
 pub mod Theorem
 pub mod HoldsLaws
 pub mod FormerLaws

@@ -4,6 +4,7 @@ use mathlib.Core.List.{List, [], _∷_}
 use Rattle.tokens.specs.Cursor.{Tok}
 use Rattle.model.specs.Ranges.{Each, In-range, Event-in-range, Trigger-in-range, Reading-in-range, Value-in-range, Operand-in-range, Condition-in-range}
 use Rattle.sheet.specs.View.{View}
+use Rattle.sheet.specs.declared.Habit.{Habit}
 use Rattle.sheet.proofs.RangeLaws.{View-in-range, view-in}
 use Rattle.references.proofs.RangeLaws.{up-to-in, clause-in, on-adapter-in, lamp-in, group-in, device-in, input-device-in, target-in, args-in, one-instance-in}
 use Rattle.model.specs.declared.Name.{Name}
@@ -115,7 +116,7 @@ module _ {t : ℕ → Tok} {view : View} {range : ℕ → Name} (sees : View-in-
   all-in (Reading-with.reading h g e) = record { triggers = when-in h; conditions = if-in g }
 
 -- with every sheet: neither a number in a rule nor a row of the sheet brings in a reference that is out of range
-pub ranges : {t : ℕ → Tok} (sheet : List ℕ) {range : ℕ → Name} {xs : List Trigger} {ys : List Condition} →
-    Reading-with t (seen sheet) range xs ys → In-range xs ys
+pub ranges : {t : ℕ → Tok} (habit : Habit) (sheet : List ℕ) {range : ℕ → Name} {xs : List Trigger} {ys : List Condition} →
+    Reading-with t (seen habit sheet) range xs ys → In-range xs ys
 unfolding seen
-ranges sheet h = all-in (view-in sheet) h
+ranges habit sheet h = all-in (view-in habit sheet) h

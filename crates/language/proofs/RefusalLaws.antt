@@ -1,14 +1,13 @@
--- Every refusal of a rule has one of document 01's numbers, 20 to 41. The searches take apart what the definitions of a form are built of.
+-- Every refusal of a rule has one of the parser's numbers (`isRefusal`). The searches take apart what the definitions of a form are built of.
 use Prim.Native.Nat.{ℕ, zero, suc}
 use mathlib.Core.Path.{_≡_}
 use mathlib.Core.Bool.{true}
 use mathlib.Core.List.{List, [], _∷_}
-use Rattle.text.specs.Choice.{within}
 use Rattle.tokens.specs.Result.{Res}
 use Rattle.tokens.specs.Cursor.{Tok}
 use Rattle.tokens.specs.Phrase.{choiceBy, choiceAt, takeWords, phraseAt, eitherAt, pointChoice, phraseChoice, pointPhrase}
 use Rattle.sheet.specs.View.{View}
-use Rattle.references.proofs.NumberLaws.{Refuses, refusals}
+use Rattle.references.proofs.NumberLaws.{isRefusal, Refuses, refusals}
 use Rattle.model.specs.declared.Name.{Name}
 use Rattle.model.specs.declared.TimeBound.{TimeBound}
 use Rattle.model.specs.declared.TimeBound.the-variants.{Clock, Solar}
@@ -30,11 +29,11 @@ module _ (t : ℕ → Tok) where
   unfolding phraseAt
   phrase-refuses list i = search (refusals, words-refuse)
 
-  by-refuses : (list : List ℕ) (number i j : ℕ) (w : List ℕ) → within 20 41 number ≡ true → Refuses (choiceBy list number i j w)
+  by-refuses : (list : List ℕ) (number i j : ℕ) (w : List ℕ) → isRefusal number ≡ true → Refuses (choiceBy list number i j w)
   unfolding choiceBy
   by-refuses list number i j w e = search refusals
 
-  choice-refuses : (list : List ℕ) (number i : ℕ) → within 20 41 number ≡ true → Refuses (choiceAt t list number i)
+  choice-refuses : (list : List ℕ) (number i : ℕ) → isRefusal number ≡ true → Refuses (choiceAt t list number i)
   unfolding choiceAt
   choice-refuses list number i e = search (refusals, by-refuses)
 
@@ -105,13 +104,13 @@ module _ (t : ℕ → Tok) (view : View) (range : ℕ → Name) (fuel : ℕ) whe
   condition-refuses i = search (forms, value-refuses) depth 40 fits 9000
 
 -- a repeated form refuses as the form does, or with its own number
-repeated-refuses : {A : Type 0} (t : ℕ → Tok) (word : List ℕ) (number : ℕ) (form : ℕ → Res A) → within 20 41 number ≡ true →
+repeated-refuses : {A : Type 0} (t : ℕ → Tok) (word : List ℕ) (number : ℕ) (form : ℕ → Res A) → isRefusal number ≡ true →
     ((i : ℕ) → Refuses (form i)) → (most i : ℕ) → Refuses (repeated t word number form most i)
 unfolding repeated
 repeated-refuses t word number form e h zero i = search refusals
 repeated-refuses t word number form e h (suc most) i = search (refusals, repeated-refuses t word number form e h most)
 
--- every refusal of a rule has a number from 20 to 41
+-- every refusal of a rule has one of these numbers
 pub rule-refuses : (t : ℕ → Tok) (view : View) (range : ℕ → Name) (fuel : ℕ) → Refuses (ruleAt t view range fuel)
 unfolding ruleAt whenSection ifSection atEnd
 rule-refuses t view range fuel = search (refusals, repeated-refuses, trigger-refuses, condition-refuses) depth 9

@@ -24,11 +24,12 @@ use Rattle.tokens.proofs.LayoutLaws.{laid}
 use Rattle.tokens.proofs.DurationLaws.{durations}
 use Rattle.sheet.specs.Sheet.{sheetCheck}
 use Rattle.sheet.specs.View.{View}
+use Rattle.sheet.specs.declared.Habit.{Habit}
 use Rattle.sheet.specs.declared.rows.Sheet.{Sheet}
 use Rattle.model.specs.Lists.{acceptedWith, refusedWith}
 use Rattle.references.proofs.ArgComplete.{no-token}
 use Rattle.tokens.proofs.Okay.{Okay}
-use Rattle.references.proofs.NumberLaws.{Refuses}
+use Rattle.references.proofs.NumberLaws.{Refuses, refusal-least}
 use Rattle.language.proofs.RefusalLaws.{rule-refuses}
 use Rattle.language.proofs.RangeLaws.{ranges}
 use Rattle.language.specs.Section.{Lists}
@@ -71,7 +72,7 @@ parsed-sound : (text words : List ℕ) (view : View) (l : Lexing) (m : Res Lists
 unfolding parsed refusedWith Refuses
 parsed-sound text words view l (ok lists j) n h e =
     record { triggers = lists .triggers; conditions = lists .conditions; lists = refl; reads = h }
-parsed-sound text words view l (no r) n h e = let some = n .0 in absurd (omega arith)
+parsed-sound text words view l (no r) n h e = let some = refusal-least (r .number) n in absurd (omega arith)
 
 -- a lexing that ends is parsed
 pub lexed-complete : (text : List ℕ) (view : View) (whole : Lexing) {l : Lexing} {count : ℕ} → Ended l count →
@@ -105,26 +106,26 @@ unfolding lexText
 few text h = most-tokens mostTokens text start h
 
 -- Accepted with number 0: the questions from the last to the first.
-module _ (text sheet words : List ℕ) where
+module _ (habit : Habit) (text sheet words : List ℕ) where
   abbrev Sound : Outcome → Type 0
-  Sound o = o .answer .number ≡ 0 → Accepts text sheet (length words) (o .answer)
+  Sound o = o .answer .number ≡ 0 → Accepts habit text sheet (length words) (o .answer)
 
   text-sound : length text ≤ mostBytes → leastWords ≤ length words → sheetCheck sheet ≡ Sheet.WellFormed → (c : Checked) → Judged text c →
-      Sound (byText text (seen sheet) words c)
+      Sound (byText text (seen habit sheet) words c)
   unfolding byText refusedWith ruleOf
   text-sound short room sheet-passes (IllFormed line column) j e = absurd (omega arith)
   text-sound short room sheet-passes WellFormed (well-formed octets) e =
       let whole = lexText text in
       let records = recordWords whole in
-      let p = lexed-sound text (seen sheet) whole whole (laid text) e in
+      let p = lexed-sound text (seen habit sheet) whole whole (laid text) e in
       let t = tokens text records in
-      let refuses = rule-refuses t (seen sheet) (rangeOf records) (capacity records) in
-      let sound = rule-sound t (seen sheet) (rangeOf records) (capacity records) in
-      let read = parsed-sound text records (seen sheet) whole (ruleOf text records (seen sheet)) refuses sound (p .answered) in
+      let refuses = rule-refuses t (seen habit sheet) (rangeOf records) (capacity records) in
+      let sound = rule-sound t (seen habit sheet) (rangeOf records) (capacity records) in
+      let read = parsed-sound text records (seen habit sheet) whole (ruleOf text records (seen habit sheet)) refuses sound (p .answered) in
       record {
         triggers = read .triggers;
         conditions = read .conditions;
-        lists = lexed-complete text (seen sheet) whole (p .finished) ∙ read .lists;
+        lists = lexed-complete text (seen habit sheet) whole (p .finished) ∙ read .lists;
         reads =
             record {
               room = room;
@@ -135,16 +136,16 @@ module _ (text sheet words : List ℕ) where
               few = few text (p .finished);
               reading = read .reads;
             };
-        ranges = ranges sheet (read .reads);
+        ranges = ranges habit sheet (read .reads);
       }
 
-  sheet-sound : length text ≤ mostBytes → leastWords ≤ length words → (x : Sheet) → sheetCheck sheet ≡ x → Sound (bySheet text (seen sheet) words x)
+  sheet-sound : length text ≤ mostBytes → leastWords ≤ length words → (x : Sheet) → sheetCheck sheet ≡ x → Sound (bySheet text (seen habit sheet) words x)
   unfolding bySheet refusedWith
   sheet-sound short room (Sheet.BadLine n) p e = absurd (omega arith)
   sheet-sound short room Sheet.WellFormed p e = text-sound short room p (checkOf text) (judged text) e
 
   room-sound : length text ≤ mostBytes → (b : Bool) → ltb (length words) leastWords ≡ b →
-      Sound (pick b (record { answer = refusedWith 2 0 0 0; buffer = words }) (bySheet text (seen sheet) words (sheetCheck sheet)))
+      Sound (pick b (record { answer = refusedWith 2 0 0 0; buffer = words }) (bySheet text (seen habit sheet) words (sheetCheck sheet)))
   unfolding refusedWith
   room-sound short true p e = absurd (omega arith)
   room-sound short false p e = sheet-sound short (ltb-false _ _ p) (sheetCheck sheet) refl e
@@ -152,29 +153,29 @@ module _ (text sheet words : List ℕ) where
   short-sound : (b : Bool) → ltb mostBytes (length text) ≡ b →
       Sound
       (pick b (record { answer = refusedWith 1 0 0 0; buffer = words })
-      (pick (ltb (length words) leastWords) (record { answer = refusedWith 2 0 0 0; buffer = words }) (bySheet text (seen sheet) words (sheetCheck sheet))))
+      (pick (ltb (length words) leastWords) (record { answer = refusedWith 2 0 0 0; buffer = words }) (bySheet text (seen habit sheet) words (sheetCheck sheet))))
   unfolding refusedWith
   short-sound true p e = absurd (omega arith)
   short-sound false p e = room-sound (ltb-false _ _ p) (ltb (length words) leastWords) refl e
 
-  sound : Sound (readOf text sheet words)
+  sound : Sound (readOf habit text sheet words)
   unfolding readOf
   sound e = short-sound (ltb mostBytes (length text)) refl e
 
-  complete : (xs : List Trigger) (ys : List Condition) → Has-reading text sheet (length words) xs ys →
-      readOf text sheet words .answer ≡ acceptedWith xs ys
+  complete : (xs : List Trigger) (ys : List Condition) → Has-reading habit text sheet (length words) xs ys →
+      readOf habit text sheet words .answer ≡ acceptedWith xs ys
   unfolding readOf bySheet byText ruleOf parsed
   complete xs ys h =
       let l = h .lexing in
       let records = recordWords l in
-      let rule = rule-complete (tokens text records) (seen sheet) (rangeOf records) (capacity records) (past text records) (h .reading) in
+      let rule = rule-complete (tokens text records) (seen habit sheet) (rangeOf records) (capacity records) (past text records) (h .reading) in
       rw (
         le-ltb mostBytes (length text) (h .gives .short),
         le-ltb (length words) leastWords (h .room),
         h .well-formed,
         passes (h .gives .octets),
         given (h .gives) (h .few),
-        lexed-complete text (seen sheet) l (h .gives .finished),
+        lexed-complete text (seen habit sheet) l (h .gives .finished),
         rule .1,
       )
 
@@ -185,18 +186,18 @@ pub one-reading-only : (text words : List ℕ) (view : View) {xs us : List Trigg
 one-reading-only text words view h g = one-reading (tokens text words) view (rangeOf words) (capacity words) (past text words) h g
 
 -- a reading of a text is one of the tokens that the call lexes
-as-lexed : {text sheet : List ℕ} {size : ℕ} {xs : List Trigger} {ys : List Condition} → Has-reading text sheet size xs ys →
-    Reading-with (tokens text (recordWords (lexText text))) (seen sheet) (rangeOf (recordWords (lexText text))) xs ys
-as-lexed {text} {sheet} {xs = xs} {ys = ys} h =
-    subst (λ (l : Lexing). Reading-with (tokens text (recordWords l)) (seen sheet) (rangeOf (recordWords l)) xs ys)
+as-lexed : {habit : Habit} {text sheet : List ℕ} {size : ℕ} {xs : List Trigger} {ys : List Condition} → Has-reading habit text sheet size xs ys →
+    Reading-with (tokens text (recordWords (lexText text))) (seen habit sheet) (rangeOf (recordWords (lexText text))) xs ys
+as-lexed {habit} {text} {sheet} {xs = xs} {ys = ys} h =
+    subst (λ (l : Lexing). Reading-with (tokens text (recordWords l)) (seen habit sheet) (rangeOf (recordWords l)) xs ys)
     (sym (given (h .gives) (h .few))) (h .reading)
 
--- the third demand: for every text, sheet and buffer
-pub exact : (text sheet words : List ℕ) → Exact text sheet (length words) (readOf text sheet words .answer)
-exact text sheet words =
+-- the third demand: for either habit, and every text, sheet and buffer
+pub exact : (habit : Habit) (text sheet words : List ℕ) → Exact habit text sheet (length words) (readOf habit text sheet words .answer)
+exact habit text sheet words =
     record {
-      sound = sound text sheet words;
-      complete = complete text sheet words;
-      one = λ xs us ys vs h g. one-reading-only text (recordWords (lexText text)) (seen sheet) (as-lexed h) (as-lexed g);
-      durations = λ e. durations text (sound text sheet words e .reads .gives .short);
+      sound = sound habit text sheet words;
+      complete = complete habit text sheet words;
+      one = λ xs us ys vs h g. one-reading-only text (recordWords (lexText text)) (seen habit sheet) (as-lexed h) (as-lexed g);
+      durations = λ e. durations text (sound habit text sheet words e .reads .gives .short);
     }

@@ -80,8 +80,8 @@ event-complete {t} (raw w left d e h right) =
 input-args : {t : ℕ → Tok} {view : View} {fuel i j : ℕ} {s : Selector} → End t fuel → Args-of t view i s j →
     inputTrigger t view fuel i ≡ inputChange t i s j
 unfolding inputTrigger
-input-args {t} end (args left h right g) =
-    rw (word-none t (ascii "device") refl (token-kind left), args-complete end (args left h right g))
+input-args {t} end (args left h allowed right g) =
+    rw (word-none t (ascii "device") refl (token-kind left), args-complete end (args left h allowed right g))
 
 -- and with `.` behind them
 input-point : {t : ℕ → Tok} {view : View} {fuel i j : ℕ} {s : Selector} → End t fuel → Args-of t view i s j → t j .kind ≡ 12 →

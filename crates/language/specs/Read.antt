@@ -1,5 +1,5 @@
--- The whole call: its answer and every word of the buffer at exit, as one function of text, sheet and buffer (document 01, "Questions put to a
--- call, in this order").
+-- The whole call: its answer and every word of the buffer at exit, as one function of its habit with repeated arguments (document 02), text, sheet
+-- and buffer (document 01, "Questions put to a call, in this order").
 use Prim.Native.Nat.{ℕ}
 use mathlib.Core.List.{List}
 use lib.ListN.{length}
@@ -15,6 +15,7 @@ use Rattle.tokens.specs.Lex.{Lexing, ended, refused, token, lexText, writtenFro
 use Rattle.tokens.specs.Ended.{recordWords, tokenLine, tokenColumn}
 use Rattle.sheet.specs.Sheet.{sheetCheck}
 use Rattle.sheet.specs.View.{View, viewOf, settingsOf}
+use Rattle.sheet.specs.declared.Habit.{Habit}
 use Rattle.sheet.specs.declared.rows.Sheet.{Sheet}
 use Rattle.model.specs.Lists.{acceptedWith, refusedWith}
 use Rattle.model.specs.declared.Answer.{Answer}
@@ -51,13 +52,13 @@ unfoldable pub bySheet : List ℕ → View → List ℕ → Sheet → Outcome
 bySheet text view words Sheet.WellFormed = byText text view words (checkOf text)
 bySheet text view words (Sheet.BadLine n) = record { answer = refusedWith 3 n 0 0; buffer = words }
 
--- what a call sees: its settings are those of the sheet
-unfoldable pub seen : List ℕ → View
-seen sheet = viewOf (settingsOf sheet) sheet
+-- what a call sees: its habit is its own, its other settings are those of the sheet
+unfoldable pub seen : Habit → List ℕ → View
+seen habit sheet = viewOf (settingsOf habit sheet) sheet
 
 -- "Text at most 16,384 bytes? 1." and, by document 02, §5, "the buffer at least 5,120 (question 2)"
-unfoldable pub readOf : List ℕ → List ℕ → List ℕ → Outcome
-readOf text sheet words =
+unfoldable pub readOf : Habit → List ℕ → List ℕ → List ℕ → Outcome
+readOf habit text sheet words =
     pick (ltb mostBytes (length text)) (record { answer = refusedWith 1 0 0 0; buffer = words })
     (pick (ltb (length words) leastWords) (record { answer = refusedWith 2 0 0 0; buffer = words })
-    (bySheet text (seen sheet) words (sheetCheck sheet)))
+    (bySheet text (seen habit sheet) words (sheetCheck sheet)))

@@ -23,6 +23,7 @@ use Rattle.tokens.specs.declared.cursor.Refusal.{Refusal}
 use Rattle.tokens.specs.declared.lexer.Lexed.{Lexed}
 use Rattle.tokens.specs.declared.lexer.Lexed.the-variants.{Tokens, Refused}
 use Rattle.sheet.specs.Sheet.{sheetCheck}
+use Rattle.sheet.specs.declared.Habit.{Habit}
 use Rattle.sheet.specs.View.{View, viewOf, settingsOf}
 use Rattle.sheet.specs.declared.Settings.{Settings}
 use Rattle.sheet.specs.declared.rows.Sheet.{Sheet}
@@ -221,9 +222,9 @@ module _ (words : List ℕ) (line column : ℕ) (refusal : Refusal) {count : ℕ
   placed-past h e = lt-no (refusal .token) (capacity words) _ _ (rw (← counted) h) e
 
 -- the parser's answer on the records; the call's settings are the sheet's
-module _ (text words sheet : List ℕ) (line column : ℕ) {settings : Settings} (set : settings ≡ settingsOf sheet) {rule : Rule}
+module _ (habit : Habit) (text words sheet : List ℕ) (line column : ℕ) {settings : Settings} (set : settings ≡ settingsOf habit sheet) {rule : Rule}
     (read : rule ≡ toRule (ruleAt (tokens text words) (viewOf settings sheet) (rangeOf words) (capacity words))) where
-  rule-is : rule ≡ toRule (ruleOf text words (seen sheet))
+  rule-is : rule ≡ toRule (ruleOf text words (seen habit sheet))
   unfolding ruleOf seen
   rule-is = read ∙ ap (λ (x : Settings). toRule (ruleAt (tokens text words) (viewOf x sheet) (rangeOf words) (capacity words))) set
 
@@ -244,12 +245,12 @@ module _ (text words sheet : List ℕ) (line column : ℕ) {settings : Settings}
 
   pub parsed-yes : rule .accepted ≡ true →
       record { number = 0; line = 0; column = 0; detail = 0; triggers = rule .triggers; conditions = rule .conditions } ≡
-      answered words line column (ruleOf text words (seen sheet))
-  parsed-yes h = yes-by (ruleOf text words (seen sheet)) rule-is h
+      answered words line column (ruleOf text words (seen habit sheet))
+  parsed-yes h = yes-by (ruleOf text words (seen habit sheet)) rule-is h
 
   pub parsed-no : {a : Answer} → rule .accepted ≡ false → a ≡ placed words line column (rule .refusal) →
-      a ≡ answered words line column (ruleOf text words (seen sheet))
-  parsed-no h w = no-by (ruleOf text words (seen sheet)) rule-is h w
+      a ≡ answered words line column (ruleOf text words (seen habit sheet))
+  parsed-no h w = no-by (ruleOf text words (seen habit sheet)) rule-is h w
 
 -- question 3's answer, taken apart
 pub sheet-answer : (text : List ℕ) (view : View) (words : List ℕ) (x : Sheet) {r v : Sheet} {a : Answer} → r ≡ x → r ≡ v → a ≡ bySheet text view words v .answer →
@@ -261,43 +262,43 @@ pub sheet-buffer : (text : List ℕ) (view : View) (words : List ℕ) (x : Sheet
 sheet-buffer text view words x e m h = rw (← e, m) h
 
 -- questions 1 and 2, and what lies behind them
-module _ (text sheet words : List ℕ) where
-  long-same : mostBytes < length text → record { answer = refusedWith 1 0 0 0; buffer = words } ≡ readOf text sheet words
+module _ (habit : Habit) (text sheet words : List ℕ) where
+  long-same : mostBytes < length text → record { answer = refusedWith 1 0 0 0; buffer = words } ≡ readOf habit text sheet words
   unfolding readOf
   long-same h = rw (lt-ltb mostBytes (length text) h)
 
-  small-same : length text ≤ mostBytes → length words < leastWords → record { answer = refusedWith 2 0 0 0; buffer = words } ≡ readOf text sheet words
+  small-same : length text ≤ mostBytes → length words < leastWords → record { answer = refusedWith 2 0 0 0; buffer = words } ≡ readOf habit text sheet words
   unfolding readOf
   small-same s h = rw (le-ltb mostBytes (length text) s, lt-ltb (length words) leastWords h)
 
-  asked-same : length text ≤ mostBytes → leastWords ≤ length words → bySheet text (seen sheet) words (sheetCheck sheet) ≡ readOf text sheet words
+  asked-same : length text ≤ mostBytes → leastWords ≤ length words → bySheet text (seen habit sheet) words (sheetCheck sheet) ≡ readOf habit text sheet words
   unfolding readOf
   asked-same s h = rw (le-ltb mostBytes (length text) s, le-ltb (length words) leastWords h)
 
   module _ {a : Answer} where
-    pub long-answer : mostBytes < length text → a ≡ refusedWith 1 0 0 0 → a ≡ readOf text sheet words .answer
+    pub long-answer : mostBytes < length text → a ≡ refusedWith 1 0 0 0 → a ≡ readOf habit text sheet words .answer
     long-answer h e = e ∙ ap (λ (o : Outcome). o .answer) (long-same h)
 
-    pub small-answer : length text ≤ mostBytes → length words < leastWords → a ≡ refusedWith 2 0 0 0 → a ≡ readOf text sheet words .answer
+    pub small-answer : length text ≤ mostBytes → length words < leastWords → a ≡ refusedWith 2 0 0 0 → a ≡ readOf habit text sheet words .answer
     small-answer s h e = e ∙ ap (λ (o : Outcome). o .answer) (small-same s h)
 
-    pub asked-answer : length text ≤ mostBytes → leastWords ≤ length words → a ≡ bySheet text (seen sheet) words (sheetCheck sheet) .answer →
-        a ≡ readOf text sheet words .answer
+    pub asked-answer : length text ≤ mostBytes → leastWords ≤ length words → a ≡ bySheet text (seen habit sheet) words (sheetCheck sheet) .answer →
+        a ≡ readOf habit text sheet words .answer
     asked-answer s h e = e ∙ ap (λ (o : Outcome). o .answer) (asked-same s h)
 
-  pub long-buffer : mostBytes < length text → words ≡ readOf text sheet words .buffer
+  pub long-buffer : mostBytes < length text → words ≡ readOf habit text sheet words .buffer
   long-buffer h = ap (λ (o : Outcome). o .buffer) (long-same h)
 
-  pub small-buffer : length text ≤ mostBytes → length words < leastWords → words ≡ readOf text sheet words .buffer
+  pub small-buffer : length text ≤ mostBytes → length words < leastWords → words ≡ readOf habit text sheet words .buffer
   small-buffer s h = ap (λ (o : Outcome). o .buffer) (small-same s h)
 
-  pub asked-buffer : {b : List ℕ} → length text ≤ mostBytes → leastWords ≤ length words → b ≡ bySheet text (seen sheet) words (sheetCheck sheet) .buffer →
-      b ≡ readOf text sheet words .buffer
+  pub asked-buffer : {b : List ℕ} → length text ≤ mostBytes → leastWords ≤ length words → b ≡ bySheet text (seen habit sheet) words (sheetCheck sheet) .buffer →
+      b ≡ readOf habit text sheet words .buffer
   asked-buffer s h e = e ∙ ap (λ (o : Outcome). o .buffer) (asked-same s h)
 
 -- all that the call promises, by its answer and the words at exit
-pub promised : (text sheet words : List ℕ) {a : Answer} {exit : List ℕ} → a ≡ readOf text sheet words .answer → exit ≡ readOf text sheet words .buffer →
-    ((a ≡ readOf text sheet words .answer) × (exit ≡ readOf text sheet words .buffer))
-    × (Holds (frontOf (a .number) text) words exit × Exact text sheet (length words) a)
-promised text sheet words e f =
-    ((e, f), (read-holds text sheet words e f, subst (λ (x : Answer). Exact text sheet (length words) x) (sym e) (exact text sheet words)))
+pub promised : (habit : Habit) (text sheet words : List ℕ) {a : Answer} {exit : List ℕ} → a ≡ readOf habit text sheet words .answer → exit ≡ readOf habit text sheet words .buffer →
+    ((a ≡ readOf habit text sheet words .answer) × (exit ≡ readOf habit text sheet words .buffer))
+    × (Holds (frontOf (a .number) text) words exit × Exact habit text sheet (length words) a)
+promised habit text sheet words e f =
+    ((e, f), (read-holds habit text sheet words e f, subst (λ (x : Answer). Exact habit text sheet (length words) x) (sym e) (exact habit text sheet words)))

@@ -11,8 +11,9 @@ use Rattle.tokens.specs.Cursor.{Tok, isKind, accepted}
 use Rattle.tokens.specs.declared.cursor.Cursor.{Cursor}
 use Rattle.tokens.specs.declared.cursor.Refusal.{Refusal}
 use Rattle.tokens.specs.declared.cursor.Accepted.{Accepted}
-use Rattle.sheet.specs.View.{View}
-use Rattle.references.specs.Args.{slotOf, typeWord, put, withInst, withDev, withGroup, isDev, isNumber, oneInstance, toItem, toArgs, toSelector, toInput}
+use Rattle.sheet.specs.View.{View, mayRepeat}
+use Rattle.sheet.specs.declared.Habit.{Habit}
+use Rattle.references.specs.Args.{slotOf, typeWord, put, withInst, withDev, withGroup, isDev, isNumber, isGroup, isOn, isRepeat, oneInstance, toItem, toArgs, toSelector, toInput}
 use Rattle.sheet.specs.declared.resolve.Scope.{Scope}
 use Rattle.references.specs.declared.refs.NameOrId.{NameOrId}
 use Rattle.references.specs.declared.args.Dev.{Dev}
@@ -166,6 +167,15 @@ dev-told x was h = rw was h
 pub number-told : (x : Number) {v : Number} {y : Bool} → x ≡ v → y ≡ isNumber v → y ≡ isNumber x
 number-told x was h = rw was h
 
+pub group-told : (x : GroupArg) {v : GroupArg} {y : Bool} → x ≡ v → y ≡ isGroup v → y ≡ isGroup x
+group-told x was h = rw was h
+
+pub scope-told : (x : Scope) {v : Scope} {y : Bool} → x ≡ v → y ≡ isOn v → y ≡ isOn x
+scope-told x was h = rw was h
+
+pub by-habit : (x : Habit) (a : Args) (slot : ℕ) {v : Habit} {y : Bool} → x ≡ v → y ≡ isRepeat (mayRepeat v) a slot → y ≡ isRepeat (mayRepeat x) a slot
+by-habit x a slot was h = rw was h
+
 -- a token that was accepted, and the kind of the one behind it
 abbrev there : Accepted → Bool
 there (Accepted.Yes c) = true
@@ -248,6 +258,9 @@ pub ruleset arguments = (
   by-selector,
   dev-told,
   number-told,
+  group-told,
+  scope-told,
+  by-habit,
   both-kinds,
   not-first,
   slot-none,

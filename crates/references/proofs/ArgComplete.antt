@@ -16,9 +16,9 @@ use Rattle.tokens.proofs.CursorLaws.{no-kind}
 use Rattle.sheet.specs.View.{View}
 use Rattle.references.specs.Refs.{scopeOrPrimary}
 use Rattle.references.specs.Arguments.{noSlot, devSlot, instSlot}
-use Rattle.references.specs.Args.{slotOf, isNamed, keySlot, namedSlot, unnamedSlot, slotAt, typeWord, inputTypeValue, deviceItem, instanceItem, groupItem, typeItem, adapterItem, itemAt, noArgs, argAt, countWith, deviceInstance, withInst, withDev, isDev, isNumber, withGroup, selected, closeArgs, inputSelector, oneInstance, inputRef}
+use Rattle.references.specs.Args.{slotOf, isNamed, keySlot, namedSlot, unnamedSlot, slotAt, typeWord, inputTypeValue, deviceItem, instanceItem, groupItem, typeItem, adapterItem, itemAt, isRepeat, put, noArgs, argAt, countWith, deviceInstance, withInst, withDev, isDev, isNumber, withGroup, selected, closeArgs, inputSelector, oneInstance, inputRef}
 use Rattle.tokens.specs.Grammar.{Token, token, Word, a-word, Up-to, up-to}
-use Rattle.references.specs.Grammar.{quoted, Name-or-id, name, id, Adapter, Type-of, number, button, absolute, occupancy, light, Arg, first, second, Arg-list, one, more, On-adapter, primary, given, Selects, instance, instances, Args-of, args, One-instance, one-instance}
+use Rattle.references.specs.Grammar.{slot, quoted, Name-or-id, name, id, Adapter, Type-of, number, button, absolute, occupancy, light, Arg, first, second, Arg-list, one, more, On-adapter, primary, given, Selects, instance, instances, Args-of, args, One-instance, one-instance}
 use Rattle.sheet.specs.declared.resolve.Scope.{Scope}
 use Rattle.references.specs.declared.refs.NameOrId.{NameOrId}
 use Rattle.references.specs.declared.args.Item.{Item}
@@ -26,6 +26,8 @@ use Rattle.model.specs.declared.Selector.{Selector}
 use Rattle.model.specs.declared.InputRef.{InputRef}
 use Rattle.tokens.proofs.Okay.{token-kind, not-kind, kind-yes, kind-no, kind-complete, up-to-complete}
 use Rattle.references.proofs.RefComplete.{name-or-id-complete, adapter-complete, refers-complete}
+use Rattle.references.specs.declared.args.Args.{Args}
+use Rattle.references.proofs.RepeatLaws.{Fresh, fresh-end, fresh, allowed-fresh}
 use Rattle.references.proofs.ItemLaws.{puts, itemsFrom, args-items, no-dev, dev, dev-is, no-inst, inst, inst-is, no-group, in-group, group-is, type-is, scope-is}
 
 -- each part takes a token at least
@@ -94,38 +96,39 @@ unfolding slotAt unnamedSlot countWith
 second-slot {t} (up-to (token p) l) =
     record { answered = rw (unnamed t refl p); counted = rw (unnamed t refl p); behind = omega arith }
 
--- an argument at a slot, read from k on
-at-slot : {t : ℕ → Tok} (view : View) {m i slot n k l : ℕ} {x : Item} → Slot t m i slot n k → itemAt t view slot k ≡ ok x l → k < l →
-    (argAt t view m i ≡ ok x l) × (countWith t m i ≡ n) × (i < l)
+-- an argument at a slot, no repeat, read from k on
+at-slot : {t : ℕ → Tok} (view : View) (a : Args) {m i s n k l : ℕ} {x : Item} → isRepeat (view .repeats) a s ≡ false → Slot t m i s n k →
+    itemAt t view s k ≡ ok x l → k < l → (argAt t view a m i ≡ ok x l) × (countWith t m i ≡ n) × (i < l)
 unfolding argAt
-at-slot view s e h = (rw (s .answered) e, s .counted, let p = s .behind in omega arith)
+at-slot view a f s e h = (rw (s .answered, f) e, s .counted, let p = s .behind in omega arith)
 
 -- one argument, the number of unnamed ones with it, and that it takes a token
-pub arg-complete : {t : ℕ → Tok} {view : View} {m i n j : ℕ} {x : Item} → Arg t view m i x n j →
-    (argAt t view m i ≡ ok x j) × (countWith t m i ≡ n) × (i < j)
-unfolding slotOf sameBytes itemAt deviceItem instanceItem groupItem typeItem adapterItem
-arg-complete {view = view} (Arg.dev w e h) = at-slot view (key-slot w e (λ z. omega arith)) (rw (name-or-id-complete h)) (name-or-id-next h)
-arg-complete {t} {view} (Arg.inst w e h) = at-slot view (key-slot w e (λ z. omega arith)) (rw (up-to-complete t h)) (up-to-next h)
-arg-complete {t} {view} (Arg.group w e h) = at-slot view (key-slot w e (λ z. omega arith)) (rw (up-to-complete t h)) (up-to-next h)
-arg-complete {view = view} (Arg.type w e h) = at-slot view (key-slot w e (λ z. omega arith)) (rw (type-complete h)) (type-next h)
-arg-complete {view = view} (Arg.adapter w e h) = at-slot view (key-slot w e (λ z. omega arith)) (rw (adapter-complete h)) (adapter-next h)
-arg-complete {view = view} (first h) = at-slot view (first-slot h) (rw (name-or-id-complete h)) (name-or-id-next h)
-arg-complete {t} {view} (second h) = at-slot view (second-slot h) (rw (up-to-complete t h)) (up-to-next h)
+pub arg-complete : {t : ℕ → Tok} {view : View} {m i n j : ℕ} {x : Item} (a : Args) → isRepeat (view .repeats) a (slot x) ≡ false →
+    Arg t view m i x n j → (argAt t view a m i ≡ ok x j) × (countWith t m i ≡ n) × (i < j)
+unfolding slotOf sameBytes itemAt deviceItem instanceItem groupItem typeItem adapterItem slot
+arg-complete {view = view} a f (Arg.dev w e h) = at-slot view a f (key-slot w e (λ z. omega arith)) (rw (name-or-id-complete h)) (name-or-id-next h)
+arg-complete {t} {view} a f (Arg.inst w e h) = at-slot view a f (key-slot w e (λ z. omega arith)) (rw (up-to-complete t h)) (up-to-next h)
+arg-complete {t} {view} a f (Arg.group w e h) = at-slot view a f (key-slot w e (λ z. omega arith)) (rw (up-to-complete t h)) (up-to-next h)
+arg-complete {view = view} a f (Arg.type w e h) = at-slot view a f (key-slot w e (λ z. omega arith)) (rw (type-complete h)) (type-next h)
+arg-complete {view = view} a f (Arg.adapter w e h) = at-slot view a f (key-slot w e (λ z. omega arith)) (rw (adapter-complete h)) (adapter-next h)
+arg-complete {view = view} a f (first h) = at-slot view a f (first-slot h) (rw (name-or-id-complete h)) (name-or-id-next h)
+arg-complete {t} {view} a f (second h) = at-slot view a f (second-slot h) (rw (up-to-complete t h)) (up-to-next h)
 
 -- the list ends before a token that is no comma
-pub items-complete : {t : ℕ → Tok} {view : View} {m i j : ℕ} {xs : List Item} (fuel : ℕ) → length xs ≤ fuel → (t j .kind ≡ 11 → ⊥) →
-    Arg-list t view m i xs j → itemsFrom t view fuel m i ≡ ok xs j
+pub items-complete : {t : ℕ → Tok} {view : View} {m i j : ℕ} {xs : List Item} (fuel : ℕ) (a : Args) → length xs ≤ fuel → (t j .kind ≡ 11 → ⊥) →
+    Fresh (view .repeats) a xs → Arg-list t view m i xs j → itemsFrom t view fuel a m i ≡ ok xs j
 unfolding itemsFrom
-items-complete zero l n (one h) = absurd (omega arith)
-items-complete zero l n (more h c g) = absurd (omega arith)
-items-complete {t} {j = j} (suc fuel) l n (one h) = let a = arg-complete h in rw (a .0, kind-no t 11 j n)
-items-complete {t} (suc fuel) l n (more h (token p) g) =
-    let a = arg-complete h in
-    rw (a .0, kind-yes t refl p, a .1, items-complete fuel (omega arith) n g)
+items-complete zero a l n f (one h) = absurd (omega arith)
+items-complete zero a l n f (more h c g) = absurd (omega arith)
+items-complete {t} {j = j} (suc fuel) a l n (fresh f fs) (one h) = let p = arg-complete a f h in rw (p .0, kind-no t 11 j n)
+items-complete {t} (suc fuel) a l n (fresh {x = x} f fs) (more h (token p) g) =
+    let q = arg-complete a f h in
+    rw (q .0, kind-yes t refl p, q .1, items-complete fuel (put a x) (omega arith) n fs g)
 
-items-next : {t : ℕ → Tok} {view : View} {m i j : ℕ} {xs : List Item} → Arg-list t view m i xs j → i + length xs ≤ j
-items-next (one h) = let a = arg-complete h in omega arith
-items-next (more h c g) = let a = arg-complete h in omega (arith, token-next c, items-next g)
+items-next : {t : ℕ → Tok} {view : View} {a : Args} {m i j : ℕ} {xs : List Item} → Fresh (view .repeats) a xs → Arg-list t view m i xs j →
+    i + length xs ≤ j
+items-next {a = a} (fresh f fs) (one h) = let p = arg-complete a f h in omega arith
+items-next {a = a} (fresh f fs) (more h c g) = let p = arg-complete a f h in omega (arith, token-next c, items-next fs g)
 
 -- an instance group's adapter
 adapter-is : {view : View} {scope : Scope} {a : ℕ} → On-adapter view scope a → scopeOrPrimary view scope ≡ a
@@ -158,10 +161,11 @@ token-before {fuel = fuel} {i = i} end n h = by (decLe fuel i)
 pub args-complete : {t : ℕ → Tok} {view : View} {fuel i j : ℕ} {s : Selector} → ((k : ℕ) → fuel ≤ k → t k .kind ≡ 0) →
     Args-of t view i s j → inputSelector t view fuel i ≡ ok s j
 unfolding inputSelector closeArgs
-args-complete {t} {view} {fuel} end (args {j = j} {k = k} {l = l} {xs = xs} left h right g) =
-    let few : length xs ≤ fuel = omega (arith, items-next h, token-before end (λ e. omega arith) right) in
+args-complete {t} {view} {fuel} end (args {j = j} {k = k} {l = l} {xs = xs} left h allowed right g) =
+    let new = allowed-fresh (view .repeats) allowed in
+    let few : length xs ≤ fuel = omega (arith, items-next new h, token-before end (λ e. omega arith) right) in
     let behind : t k .kind ≡ 11 → ⊥ = not-kind t 11 refl (token-kind right) in
-    rw (kind-complete t refl left, args-items t view fuel noArgs 0 j, items-complete fuel few behind h)
+    rw (kind-complete t refl left, args-items t view fuel noArgs 0 j, items-complete fuel noArgs few behind new h)
     (rw (kind-complete t refl right) (selected-complete k l g))
 
 -- and so is one instance

@@ -37,7 +37,7 @@ after t view left a count i item j =
     perhaps (isKind t 11 j) j (λ k. argsFrom t view left (put a item) (countWith t count i) k) (ok (put a item) j)
 
 from-one : (t : ℕ → Tok) (view : View) (left : ℕ) (a : Args) (count i : ℕ) → (left ≡ 0 → ⊥) →
-    argsFrom t view left a count i ≡ bind (argAt t view count i) (after t view (left - 1) a count i)
+    argsFrom t view left a count i ≡ bind (argAt t view a count i) (after t view (left - 1) a count i)
 unfolding argsFrom
 from-one t view left a count i h =
     let e : left ≡ suc (left - 1) = omega arith in
@@ -45,18 +45,18 @@ from-one t view left a count i h =
 
 -- the loop's body: one is the argument at i, or its refusal
 module _ {t : ℕ → Tok} {view : View} {whole : Res Args} {left : ℕ} {a : Args} {count i : ℕ} {one : ItemAnswer}
-    (going : Going t view whole left a count i) (more : left ≡ 0 → ⊥) (read : one ≡ toItem (argAt t view count i)) where
-  turned : whole ≡ bind (argAt t view count i) (after t view (left - 1) a count i)
+    (going : Going t view whole left a count i) (more : left ≡ 0 → ⊥) (read : one ≡ toItem (argAt t view a count i)) where
+  turned : whole ≡ bind (argAt t view a count i) (after t view (left - 1) a count i)
   turned = going .same ∙ from-one t view left a count i more
 
   pub no-arg : {r : Refusal} → one ≡ ItemAnswer.No r → ArgsAnswer.No r ≡ toArgs whole
-  no-arg m = args-no whole (stop-item (argAt t view count i) (after t view (left - 1) a count i) read m ∙ sym turned)
+  no-arg m = args-no whole (stop-item (argAt t view a count i) (after t view (left - 1) a count i) read m ∙ sym turned)
 
   -- comma is what stands behind the argument
   module _ {item : Item} {next : Cursor} {b : Args} {comma : Accepted} (was : one ≡ ItemAnswer.Got item next) (stored : b ≡ put a item)
       (asked : comma ≡ accepted (isKind t 11 (next .index)) (next .index)) where
     then-after : {y : Res Args} → y ≡ after t view (left - 1) a count i item (next .index) → y ≡ whole
-    then-after h = then-item (argAt t view count i) (after t view (left - 1) a count i) read was h ∙ sym turned
+    then-after h = then-item (argAt t view a count i) (after t view (left - 1) a count i) read was h ∙ sym turned
 
     pub last-arg : comma ≡ Left → ArgsAnswer.Got b next ≡ toArgs whole
     last-arg m =

@@ -17,9 +17,9 @@ use Rattle.sheet.specs.Kind.{inputKind}
 use Rattle.sheet.specs.View.{View}
 use Rattle.references.specs.Refs.{nameOrId, adapterNumber, scopeOrPrimary, referred}
 use Rattle.references.specs.Arguments.{noSlot, devSlot, instSlot, groupSlot, typeSlot, adapterSlot, noType, pushButton, absoluteInput, occupancySensor, lightSensor}
-use Rattle.references.specs.Args.{slotOf, isNamed, keySlot, namedSlot, unnamedSlot, slotAt, typeWord, inputTypeValue, deviceItem, instanceItem, groupItem, typeItem, adapterItem, itemAt, noArgs, argAt, countWith, deviceInstance, withInst, withDev, isDev, isNumber, withGroup, selected, closeArgs, inputSelector, oneInstance, inputRef}
+use Rattle.references.specs.Args.{slotOf, isNamed, keySlot, namedSlot, unnamedSlot, slotAt, typeWord, inputTypeValue, deviceItem, instanceItem, groupItem, typeItem, adapterItem, itemAt, isRepeat, put, noArgs, argAt, countWith, deviceInstance, withInst, withDev, isDev, isNumber, withGroup, selected, closeArgs, inputSelector, oneInstance, inputRef}
 use Rattle.tokens.specs.Grammar.{token, a-word}
-use Rattle.references.specs.Grammar.{Type-of, number, button, absolute, occupancy, light, Arg, first, second, Arg-list, one, more, Scoped, On-adapter, primary, given, Typed, Selects, instance, instances, Args-of, args, One-instance, one-instance}
+use Rattle.references.specs.Grammar.{slot, Type-of, number, button, absolute, occupancy, light, Arg, first, second, Arg-list, one, more, Scoped, On-adapter, primary, given, Typed, Selects, instance, instances, Args-of, args, One-instance, one-instance}
 use Rattle.sheet.specs.declared.resolve.Scope.{Scope}
 use Rattle.sheet.specs.declared.resolve.Scope.the-variants.{Any, On}
 use Rattle.model.specs.declared.Ref.{Ref}
@@ -29,8 +29,9 @@ use Rattle.references.specs.declared.args.GroupArg.{GroupArg}
 use Rattle.references.specs.declared.args.Item.{Item}
 use Rattle.references.specs.declared.args.Args.{Args}
 use Rattle.model.specs.declared.Selector.{Selector}
-use Rattle.tokens.proofs.Okay.{Okay, bind-ok, perhaps-ok, mapped, both-true, token-kind, is-kind, kind-sound, up-to-sound}
+use Rattle.tokens.proofs.Okay.{Okay, bind-ok, pick-ok, perhaps-ok, mapped, both-true, token-kind, is-kind, kind-sound, up-to-sound}
 use Rattle.references.proofs.RefSound.{name-or-id-sound, adapter-sound, refers-sound}
+use Rattle.references.proofs.RepeatLaws.{Fresh, fresh-end, fresh, fresh-allowed}
 use Rattle.references.proofs.ItemLaws.{puts, putAll, itemsFrom, args-items, Dev-in, no-dev, dev, dev-left, Inst-in, no-inst, inst, inst-left, Group-in, no-group, in-group, group-left, type-left, scope-left}
 
 -- what a key and a type's word are
@@ -100,60 +101,84 @@ put-ok Q (ok xs j) f h k = k xs j h
 put-ok Q (no r) f h k = tt
 
 module _ (t : ℕ → Tok) (view : View) where
-  -- a named argument, by its key
-  named-sound : (m : ℕ) {i s : ℕ} {w : List ℕ} → t i .kind ≡ 1 → t (i + 1) .kind ≡ 14 → t i .bytes ≡ w → Key s w →
-      Okay (λ x j. Arg t view m i x m j) (bind (pick (eqb s 0) (refuse 21 i) (ok s (i + 1 + 1))) (λ slot j. itemAt t view slot j))
-  unfolding itemAt deviceItem instanceItem groupItem typeItem adapterItem
-  named-sound m p r q other-key = tt
-  named-sound m {i} p r q key-dev =
-      bind-ok _ (nameOrId t (i + 1 + 1)) _ (name-or-id-sound t (i + 1 + 1)) (λ d j h. Arg.dev (a-word p q) (token r) h)
-  named-sound m {i} p r q key-inst =
-      bind-ok _ (takeIn t 0 lastInstance (i + 1 + 1)) _ (up-to-sound t lastInstance (i + 1 + 1)) (λ n j h. Arg.inst (a-word p q) (token r) h)
-  named-sound m {i} p r q key-group =
-      bind-ok _ (takeIn t 0 lastInstanceGroup (i + 1 + 1)) _ (up-to-sound t lastInstanceGroup (i + 1 + 1))
-      (λ n j h. Arg.group (a-word p q) (token r) h)
-  named-sound m {i} p r q key-type =
-      bind-ok _ (inputTypeValue t (i + 1 + 1)) _ (type-sound t (i + 1 + 1)) (λ n j h. Arg.type (a-word p q) (token r) h)
-  named-sound m {i} p r q key-adapter =
-      bind-ok _ (adapterNumber t view (i + 1 + 1)) _ (adapter-sound t view (i + 1 + 1)) (λ a j h. Arg.adapter (a-word p q) (token r) h)
+  -- one argument behind those in a: a reading, and no repeat where none is allowed
+  module _ (a : Args) where
+    abbrev Read : ℕ → ℕ → ℕ → Item → ℕ → Type 0
+    Read m i n x j = Arg t view m i x n j × (isRepeat (view .repeats) a (slot x) ≡ false)
 
-  -- an unnamed one behind m others
-  unnamed-sound : (m i : ℕ) →
-      Okay (λ x j. Arg t view m i x (pick (ltb m 2) (m + 1) 2) j) (bind (unnamedSlot m i) (λ slot j. itemAt t view slot j))
-  unfolding unnamedSlot itemAt deviceItem instanceItem
-  unnamed-sound zero i = bind-ok _ (nameOrId t i) _ (name-or-id-sound t i) (λ d j h. first h)
-  unnamed-sound (suc zero) i = bind-ok _ (takeIn t 0 lastInstance i) _ (up-to-sound t lastInstance i) (λ n j h. second h)
-  unnamed-sound (suc (suc m)) i = rw (ne-eqb (suc (suc m)) 0 (λ e. omega arith), ne-eqb (suc (suc m)) 1 (λ e. omega arith)) tt
+    -- the value of an argument that is asked for repeats first
+    abbrev asked : ℕ → ℕ → ℕ → Res Item
+    asked i s j = pick (isRepeat (view .repeats) a s) (refuse 63 i) (itemAt t view s j)
 
-  -- a word and `=`, or not
-  slot-sound : (m i : ℕ) (b : Bool) → isNamed t i ≡ b →
-      Okay (λ x j. Arg t view m i x (pick b m (pick (ltb m 2) (m + 1) 2)) j)
-      (bind (pick b (namedSlot t i) (unnamedSlot m i)) (λ slot j. itemAt t view slot j))
-  unfolding isNamed namedSlot takeKind keySlot
-  slot-sound m i true e =
-      let k = both-true (isKind t 1 i) _ e in
-      let word = token-kind (is-kind t 1 i (k .0)) in
-      let equals = token-kind (is-kind t 14 (i + 1) (k .1)) in
-      rw (k .0, k .1) (named-sound m word equals refl (key-of (t i .bytes)))
-  slot-sound m i false e = unnamed-sound m i
+    not-set : (G : Item → ℕ → Type 0) (i s : ℕ) (x : Res Item) → (isRepeat (view .repeats) a s ≡ false → Okay G x) →
+        Okay G (pick (isRepeat (view .repeats) a s) (refuse 63 i) x)
+    not-set G i s x f = pick-ok G (isRepeat (view .repeats) a s) _ x (λ e. tt) f
 
-  -- one argument, with the number of unnamed ones that are there with it
-  pub arg-sound : (m i : ℕ) → Okay (λ x j. Arg t view m i x (countWith t m i) j) (argAt t view m i)
-  unfolding argAt slotAt countWith
-  arg-sound m i = slot-sound m i (isNamed t i) refl
+    -- a named argument, by its key
+    named-sound : (m : ℕ) {i s : ℕ} {w : List ℕ} → t i .kind ≡ 1 → t (i + 1) .kind ≡ 14 → t i .bytes ≡ w → Key s w →
+        Okay (Read m i m) (bind (pick (eqb s 0) (refuse 21 i) (ok s (i + 1 + 1))) (asked i))
+    unfolding itemAt deviceItem instanceItem groupItem typeItem adapterItem slot
+    named-sound m p r q other-key = tt
+    named-sound m {i} p r q key-dev =
+        not-set (Read m i m) i devSlot (deviceItem t (i + 1 + 1))
+        (λ e. bind-ok _ (nameOrId t (i + 1 + 1)) _ (name-or-id-sound t (i + 1 + 1)) (λ d j h. (Arg.dev (a-word p q) (token r) h, e)))
+    named-sound m {i} p r q key-inst =
+        not-set (Read m i m) i instSlot (instanceItem t (i + 1 + 1))
+        (λ e.
+        bind-ok _ (takeIn t 0 lastInstance (i + 1 + 1)) _ (up-to-sound t lastInstance (i + 1 + 1))
+        (λ n j h. (Arg.inst (a-word p q) (token r) h, e)))
+    named-sound m {i} p r q key-group =
+        not-set (Read m i m) i groupSlot (groupItem t (i + 1 + 1))
+        (λ e.
+        bind-ok _ (takeIn t 0 lastInstanceGroup (i + 1 + 1)) _ (up-to-sound t lastInstanceGroup (i + 1 + 1))
+        (λ n j h. (Arg.group (a-word p q) (token r) h, e)))
+    named-sound m {i} p r q key-type =
+        not-set (Read m i m) i typeSlot (typeItem t (i + 1 + 1))
+        (λ e. bind-ok _ (inputTypeValue t (i + 1 + 1)) _ (type-sound t (i + 1 + 1)) (λ n j h. (Arg.type (a-word p q) (token r) h, e)))
+    named-sound m {i} p r q key-adapter =
+        not-set (Read m i m) i adapterSlot (adapterItem t view (i + 1 + 1))
+        (λ e.
+        bind-ok _ (adapterNumber t view (i + 1 + 1)) _ (adapter-sound t view (i + 1 + 1))
+        (λ n j h. (Arg.adapter (a-word p q) (token r) h, e)))
 
-  pub items-sound : (fuel m i : ℕ) → Okay (Arg-list t view m i) (itemsFrom t view fuel m i)
+    -- an unnamed one behind m others
+    unnamed-sound : (m i : ℕ) → Okay (Read m i (pick (ltb m 2) (m + 1) 2)) (bind (unnamedSlot m i) (asked i))
+    unfolding unnamedSlot itemAt deviceItem instanceItem slot
+    unnamed-sound zero i =
+        not-set (Read 0 i 1) i devSlot (deviceItem t i) (λ e. bind-ok _ (nameOrId t i) _ (name-or-id-sound t i) (λ d j h. (first h, e)))
+    unnamed-sound (suc zero) i =
+        not-set (Read 1 i 2) i instSlot (instanceItem t i) (λ e. bind-ok _ (takeIn t 0 lastInstance i) _ (up-to-sound t lastInstance i) (λ n j h. (second h, e)))
+    unnamed-sound (suc (suc m)) i = rw (ne-eqb (suc (suc m)) 0 (λ e. omega arith), ne-eqb (suc (suc m)) 1 (λ e. omega arith)) tt
+
+    -- a word and `=`, or not
+    slot-sound : (m i : ℕ) (b : Bool) → isNamed t i ≡ b →
+        Okay (Read m i (pick b m (pick (ltb m 2) (m + 1) 2))) (bind (pick b (namedSlot t i) (unnamedSlot m i)) (asked i))
+    unfolding isNamed namedSlot takeKind keySlot
+    slot-sound m i true e =
+        let k = both-true (isKind t 1 i) _ e in
+        let word = token-kind (is-kind t 1 i (k .0)) in
+        let equals = token-kind (is-kind t 14 (i + 1) (k .1)) in
+        rw (k .0, k .1) (named-sound m word equals refl (key-of (t i .bytes)))
+    slot-sound m i false e = unnamed-sound m i
+
+    -- with the number of unnamed ones that are there with it
+    pub arg-sound : (m i : ℕ) → Okay (Read m i (countWith t m i)) (argAt t view a m i)
+    unfolding argAt slotAt countWith
+    arg-sound m i = slot-sound m i (isNamed t i) refl
+
+  pub items-sound : (fuel : ℕ) (a : Args) (m i : ℕ) →
+      Okay (λ xs j. Arg-list t view m i xs j × Fresh (view .repeats) a xs) (itemsFrom t view fuel a m i)
   unfolding itemsFrom
-  items-sound zero m i = tt
-  items-sound (suc fuel) m i =
-      let G : List Item → ℕ → Type 0 = Arg-list t view m i in
-      bind-ok G (argAt t view m i) _ (arg-sound m i)
+  items-sound zero a m i = tt
+  items-sound (suc fuel) a m i =
+      let G : List Item → ℕ → Type 0 = λ xs j. Arg-list t view m i xs j × Fresh (view .repeats) a xs in
+      bind-ok G (argAt t view a m i) _ (arg-sound a m i)
       (λ x j h.
       perhaps-ok G (isKind t 11 j) j _ _
       (λ e.
-      bind-ok G (itemsFrom t view fuel (countWith t m i) (j + 1)) _ (items-sound fuel (countWith t m i) (j + 1))
-      (λ xs k g. more h (is-kind t 11 j e) g))
-      (λ e. one h))
+      bind-ok G (itemsFrom t view fuel (put a x) (countWith t m i) (j + 1)) _ (items-sound fuel (put a x) (countWith t m i) (j + 1))
+      (λ xs k g. (more (h .0) (is-kind t 11 j e) (g .0), fresh (h .1) (g .1))))
+      (λ e. (one (h .0), fresh (h .1) fresh-end)))
 
   -- what the items select, for any form that ends with it
   module _ (G : Selector → ℕ → Type 0) (xs : List Item) (close next : ℕ) (ends : (s : Selector) → Selects t view xs s → G s next) where
@@ -184,9 +209,10 @@ module _ (t : ℕ → Tok) (view : View) where
       bind-ok G (takeKind t 7 i) _ (kind-sound t 7 i)
       (λ a j left.
       rw (args-items t view fuel noArgs 0 j)
-      (put-ok G (itemsFrom t view fuel 0 j) _ (items-sound fuel 0 j)
+      (put-ok G (itemsFrom t view fuel noArgs 0 j) _ (items-sound fuel noArgs 0 j)
       (λ xs k h.
-      bind-ok G (takeKind t 8 k) _ (kind-sound t 8 k) (λ b l right. selected-sound G xs k l (λ s g. args left h right g)))))
+      bind-ok G (takeKind t 8 k) _ (kind-sound t 8 k)
+      (λ b l right. selected-sound G xs k l (λ s g. args left (h .0) (fresh-allowed (view .repeats) (h .1)) right g)))))
 
   one-sound : {i j : ℕ} (s : Selector) → Args-of t view i s j → Okay (One-instance t view i) (oneInstance i j s)
   unfolding oneInstance

@@ -39,8 +39,8 @@ module _ (t : ℕ → Tok) (view : View) {n : ℕ} (end : (k : ℕ) → n ≤ k 
   args-fuel zero k a count i l p q = absurd (omega arith)
   args-fuel (suc m) zero a count i l p q = absurd (omega arith)
   args-fuel (suc m) (suc k) a count i l p q =
-      let takes : Okay (λ (x : Item) j. i < j) (argAt t view count i) = mapped _ (argAt t view count i) (arg-sound t view count i) (λ x j h. arg-complete h .2) in
-      bind-alike (argAt t view count i) _ _ takes
+      let takes : Okay (λ (x : Item) j. i < j) (argAt t view a count i) = mapped _ (argAt t view a count i) (arg-sound t view a count i) (λ x j h. arg-complete a (h .1) (h .0) .2) in
+      bind-alike (argAt t view a count i) _ _ takes
       (λ x j next.
       perhaps-alike (isKind t COMMA j) j _ _ _
       (λ e.

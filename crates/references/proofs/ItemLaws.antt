@@ -25,14 +25,14 @@ abbrev pub puts : Args → List Item → Args
 puts a [] = a
 puts a (x ∷ xs) = puts (put a x) xs
 
--- the arguments from i on, as a list
-unfoldable pub itemsFrom : (ℕ → Tok) → View → ℕ → ℕ → ℕ → Res (List Item)
-itemsFrom t view zero count i = refuse 20 i
-itemsFrom t view (suc fuel) count i =
-    bind (argAt t view count i)
+-- the arguments from i on, behind those in a, as a list
+unfoldable pub itemsFrom : (ℕ → Tok) → View → ℕ → Args → ℕ → ℕ → Res (List Item)
+itemsFrom t view zero a count i = refuse 20 i
+itemsFrom t view (suc fuel) a count i =
+    bind (argAt t view a count i)
     (λ item j.
     perhaps (isKind t 11 j) j
-    (λ k. bind (itemsFrom t view fuel (countWith t count i) k) (λ xs l. ok (item ∷ xs) l)) (ok (item ∷ []) j))
+    (λ k. bind (itemsFrom t view fuel (put a item) (countWith t count i) k) (λ xs l. ok (item ∷ xs) l)) (ok (item ∷ []) j))
 
 -- the definition answers that list, put
 abbrev pub putAll : Args → Res (List Item) → Res Args
@@ -54,13 +54,13 @@ put-bind a (ok x j) f g h = h x j
 put-bind a (no r) f g h = refl
 
 pub args-items : (t : ℕ → Tok) (view : View) (fuel : ℕ) (a : Args) (count i : ℕ) →
-    argsFrom t view fuel a count i ≡ putAll a (itemsFrom t view fuel count i)
+    argsFrom t view fuel a count i ≡ putAll a (itemsFrom t view fuel a count i)
 unfolding argsFrom itemsFrom
 args-items t view zero a count i = refl
 args-items t view (suc fuel) a count i =
-    put-bind a (argAt t view count i) _ _
+    put-bind a (argAt t view a count i) _ _
     (λ x j.
-    put-comma a x j (isKind t 11 j) _ (λ k. itemsFrom t view fuel (countWith t count i) k)
+    put-comma a x j (isKind t 11 j) _ (λ k. itemsFrom t view fuel (put a x) (countWith t count i) k)
     (λ k. args-items t view fuel (put a x) (countWith t count i) k))
 
 -- an item of each argument

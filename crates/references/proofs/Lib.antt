@@ -4,8 +4,10 @@ pub mod ArgLaws
 pub mod RefSound
 pub mod RefComplete
 pub mod ItemLaws
+pub mod RepeatLaws
 pub mod ArgSound
 pub mod ArgComplete
 pub mod NumberLaws
+pub mod HabitLaws
 pub mod FuelLaws
 pub mod RangeLaws

@@ -1,11 +1,12 @@
--- Every refusal has one of document 01's numbers, 20 to 41: one rule for each way in which a definition is built, and what a search with these
+-- Every refusal has one of the parser's numbers (`isRefusal`): one rule for each way in which a definition is built, and what a search with these
 -- rules shows of references and ARGS.
 use Prim.Native.Nat.{ℕ, zero, suc, _+_, _≤_}
 use mathlib.Core.Path.{_≡_, refl}
 use mathlib.Core.Bool.{Bool, true, false}
 use mathlib.Core.List.{List, [], _∷_}
-use lib.Dec.{leb}
-use borrow.Author.Tests.{leb-true}
+use native.Mathlib.Omega.{arith}
+use lib.Dec.{leb, eqb}
+use borrow.Author.Tests.{leb-true, eqb-true}
 use Rattle.text.specs.Choice.{pick, within}
 use Rattle.tokens.specs.declared.cursor.Refusal.{Refusal}
 use Rattle.tokens.specs.Result.{Res, ok, no, bind, perhaps}
@@ -25,19 +26,31 @@ use Rattle.references.specs.declared.args.GroupArg.{GroupArg}
 use Rattle.model.specs.declared.Selector.{Selector}
 use Rattle.tokens.proofs.Okay.{both-true}
 
--- a refusal, if it is one, has a number from 20 to 41
+-- the numbers with which a rule is refused: 20 to 41, and of document 02 63, a repeated argument
+abbrev pub isRefusal : ℕ → Bool
+isRefusal n = pick (within 20 41 n) true (eqb n 63)
+
+-- a refusal, if it is one, has one of these numbers
 unfoldable pub Refuses : {A : Type 0} → Res A → Type 0
 Refuses (ok a j) = Unit {0}
-Refuses (no r) = (20 ≤ r .number) × (r .number ≤ 41)
+Refuses (no r) = isRefusal (r .number) ≡ true
+
+either-true : (x y : Bool) (P : Type 0) → (x ≡ true → P) → (y ≡ true → P) → pick x true y ≡ true → P
+either-true true y P f g e = f refl
+either-true false y P f g e = g e
+
+-- each is 20 or more: none is a question that is put before the parser's
+pub refusal-least : (n : ℕ) → isRefusal n ≡ true → 20 ≤ n
+refusal-least n = either-true (within 20 41 n) (eqb n 63) (20 ≤ n) (λ e. leb-true _ _ (both-true (leb 20 n) _ e .0)) (λ e. let q = eqb-true n 63 e in omega arith)
 
 pub ok-refuses : {A : Type 0} (a : A) (j : ℕ) → Refuses (ok a j)
 unfolding Refuses
 ok-refuses a j = tt
 
 -- the test of a literal number is shown by `refl`
-pub no-refuses : (A : Type 0) (r : Refusal) → within 20 41 (r .number) ≡ true → Refuses {A = A} (no r)
+pub no-refuses : (A : Type 0) (r : Refusal) → isRefusal (r .number) ≡ true → Refuses {A = A} (no r)
 unfolding Refuses
-no-refuses A r e = let p = both-true (leb 20 (r .number)) _ e in (leb-true _ _ (p .0), leb-true _ _ (p .1))
+no-refuses A r e = e
 
 pub bind-refuses : {A B : Type 0} (m : Res A) (f : A → ℕ → Res B) → Refuses m → ((a : A) (j : ℕ) → Refuses (f a j)) → Refuses (bind m f)
 unfolding Refuses
@@ -79,7 +92,7 @@ found-refuses i j (e ∷ es) [] = search parts
 found-refuses i j all (e ∷ []) = search parts
 found-refuses i j all (e ∷ f ∷ es) = no-refuses _ _ (two (elsewhere (e .adapter) (f ∷ es)))
   where
-    two : (b : Bool) → within 20 41 (pick b 34 33) ≡ true
+    two : (b : Bool) → isRefusal (pick b 34 33) ≡ true
     two true = refl
     two false = refl
 
@@ -139,9 +152,9 @@ module _ (t : ℕ → Tok) (view : View) where
   target-refuses i = search (numbers, lamp-refuses, group-refuses)
 
   -- one argument
-  arg-refuses : (count i : ℕ) → Refuses (argAt t view count i)
+  arg-refuses : (a : Args) (count i : ℕ) → Refuses (argAt t view a count i)
   unfolding argAt slotAt namedSlot keySlot unnamedSlot itemAt deviceItem instanceItem groupItem typeItem inputTypeValue adapterItem
-  arg-refuses count i = search (numbers, name-or-id-refuses, adapter-refuses) depth 12
+  arg-refuses a count i = search (numbers, name-or-id-refuses, adapter-refuses) depth 12
 
   args-refuses : (fuel : ℕ) (a : Args) (count i : ℕ) → Refuses (argsFrom t view fuel a count i)
   unfolding argsFrom

@@ -124,7 +124,7 @@ module _ {t : ℕ → Tok} {view : View} (sees : View-in-range view) where
   selects-in e (Selects.instances g w v s a k) = (on-adapter-in sees (scoped-in e s) a, last-in e g, typed-in e k)
 
   pub args-in : {i j : ℕ} {s : Selector} → Args-of t view i s j → Selector-in-range s
-  args-in (Args-of.args a h b g) = selects-in (items-in h) g
+  args-in (Args-of.args a h p b g) = selects-in (items-in h) g
 
   pub one-instance-in : {i j : ℕ} {r : InputRef} → One-instance t view i r j → Input-in-range r
   unfolding Selector-in-range

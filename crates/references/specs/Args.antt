@@ -103,7 +103,27 @@ unfoldable pub isNumber : Number → Bool
 isNumber Number.Absent = false
 isNumber (Number.Is n) = true
 
--- "A repeated argument replaces the earlier one."
+unfoldable pub isGroup : GroupArg → Bool
+isGroup GroupArg.Absent = false
+isGroup (GroupArg.Is n i) = true
+
+unfoldable pub isOn : Scope → Bool
+isOn Any = false
+isOn (On a) = true
+
+-- the argument of that slot is there already
+unfoldable pub isSet : Args → ℕ → Bool
+isSet a slot =
+    pick (eqb slot devSlot) (isDev (a .dev))
+    (pick (eqb slot instSlot) (isNumber (a .inst))
+    (pick (eqb slot groupSlot) (isGroup (a .group))
+    (pick (eqb slot typeSlot) (isNumber (a .kind)) (pick (eqb slot adapterSlot) (isOn (a .scope)) false))))
+
+-- it is, and may not be repeated
+unfoldable pub isRepeat : Bool → Args → ℕ → Bool
+isRepeat repeats a slot = pick repeats false (isSet a slot)
+
+-- "A repeated argument replaces the earlier one", where it may be repeated.
 unfoldable pub put : Args → Item → Args
 put a (Item.Device d) =
     record { dev = Dev.Is d; inst = a .inst; group = a .group; kind = a .kind; scope = a .scope }
@@ -119,9 +139,11 @@ put a (Item.Adapter n) =
 unfoldable pub noArgs : Args
 noArgs = record { dev = Dev.Absent; inst = Number.Absent; group = GroupArg.Absent; kind = Number.Absent; scope = Any }
 
--- one argument behind count unnamed ones
-unfoldable pub argAt : (ℕ → Tok) → View → ℕ → ℕ → Res Item
-argAt t view count i = bind (slotAt t count i) (λ slot j. itemAt t view slot j)
+-- one argument behind those in a, of which count are unnamed. Document 02: "It refuses an argument that sets one already set, named or not,
+-- with 63 at its first token, whichever stands there or at the end, before its value is read but after 26."
+unfoldable pub argAt : (ℕ → Tok) → View → Args → ℕ → ℕ → Res Item
+argAt t view a count i =
+    bind (slotAt t count i) (λ slot j. pick (isRepeat (view .repeats) a slot) (refuse 63 i) (itemAt t view slot j))
 
 -- how many unnamed ones there are with the one at i; two and more are alike
 unfoldable pub countWith : (ℕ → Tok) → ℕ → ℕ → ℕ
@@ -132,7 +154,7 @@ countWith t count i = pick (isNamed t i) count (pick (ltb count 2) (count + 1) 2
 unfoldable pub argsFrom : (ℕ → Tok) → View → ℕ → Args → ℕ → ℕ → Res Args
 argsFrom t view zero a count i = refuse 20 i
 argsFrom t view (suc fuel) a count i =
-    bind (argAt t view count i)
+    bind (argAt t view a count i)
     (λ item j.
     perhaps (isKind t COMMA j) j (λ k. argsFrom t view fuel (put a item) (countWith t count i) k) (ok (put a item) j))
 

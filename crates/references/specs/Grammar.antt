@@ -128,6 +128,17 @@ pub data Without (k : ℕ) : List Item → Type 0 where
   none : Without k []
   past : {x : Item} {xs : List Item} → (slot x ≡ k → ⊥) → Without k xs → Without k (x ∷ xs)
 
+-- no two of the items are the same argument
+pub data Different : List Item → Type 0 where
+  nothing : Different []
+  apart : {x : Item} {xs : List Item} → Without (slot x) xs → Different xs → Different (x ∷ xs)
+
+-- document 02: "By default a repeat is now turned away; the archive loader keeps a call with the old habit, unchanged. The grammar states
+-- both": repeats are allowed, or there is none
+pub data Allowed : Bool → List Item → Type 0 where
+  repeated : {xs : List Item} → Allowed true xs
+  different : {repeats : Bool} {xs : List Item} → Different xs → Allowed repeats xs
+
 -- x is the last of the items that is that argument: "a repeated argument replaces the earlier one"
 pub data Last (k : ℕ) : List Item → Item → Type 0 where
   last : {x : Item} {xs : List Item} → slot x ≡ k → Without k xs → Last k (x ∷ xs) x
@@ -158,8 +169,8 @@ pub data Selects (t : ℕ → Tok) (view : View) : List Item → Selector → Ty
 
 -- ARGS is `(` arguments parted by commas `)`
 pub data Args-of (t : ℕ → Tok) (view : View) : ℕ → Selector → ℕ → Type 0 where
-  args : {i a j k b l : ℕ} {xs : List Item} {s : Selector} → Token t OPEN i a j → Arg-list t view 0 j xs k → Token t CLOSE k b l →
-      Selects t view xs s → Args-of t view i s l
+  args : {i a j k b l : ℕ} {xs : List Item} {s : Selector} → Token t OPEN i a j → Arg-list t view 0 j xs k →
+      Allowed (view .repeats) xs → Token t CLOSE k b l → Selects t view xs s → Args-of t view i s l
 
 -- ARGS with one instance
 pub data One-instance (t : ℕ → Tok) (view : View) : ℕ → InputRef → ℕ → Type 0 where

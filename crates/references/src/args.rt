@@ -1,4 +1,4 @@
-// ARGS, ported from refs.rs: the arguments of `input(`, in any order, a repeated one in place of the earlier.
+// ARGS, ported from refs.rs: the arguments of `input(`, in any order; a repeated one is refused, or in the archive call takes the place of the earlier.
 use crate::refs;
 use crate::refs::NameAnswer;
 use crate::refs::NameOrId;
@@ -8,6 +8,7 @@ use model::Number;
 use model::Ref;
 use model::Selector;
 use model::limits;
+use sheet::Habit;
 use sheet::Settings;
 use sheet::kind;
 use sheet::resolve::Scope;
@@ -18,8 +19,8 @@ use tokens::cursor::Taken;
 ghost use mathlib.Core.Path.{_≡_};
 ghost use Rattle.tokens.specs.Cursor.{tokens, toTaken};
 ghost use Rattle.tokens.specs.Record.{capacity};
-ghost use Rattle.sheet.specs.View.{viewOf};
-ghost use Rattle.references.specs.Args.{slotOf, isNamed, keySlot, namedSlot, unnamedSlot, slotAt, typeWord, inputTypeValue, deviceItem, instanceItem, groupItem, typeItem, adapterItem, itemAt, put, argAt, countWith, argsFrom, noArgs, deviceInstance, withInst, withDev, isDev, isNumber, selected, closeArgs, inputSelector, oneInstance, inputRef, toItem, toArgs, toSelector, toInput};
+ghost use Rattle.sheet.specs.View.{mayRepeat, viewOf};
+ghost use Rattle.references.specs.Args.{slotOf, isNamed, keySlot, namedSlot, unnamedSlot, slotAt, typeWord, inputTypeValue, deviceItem, instanceItem, groupItem, typeItem, adapterItem, itemAt, put, argAt, countWith, argsFrom, noArgs, deviceInstance, withInst, withDev, isDev, isNumber, isGroup, isOn, isSet, isRepeat, selected, closeArgs, inputSelector, oneInstance, inputRef, toItem, toArgs, toSelector, toInput};
 
 // The arguments by number.
 pub const NO_SLOT: u32 = 0;
@@ -294,21 +295,66 @@ fn item_at(
     adapter_item(c, text, words, s, settings)
 }
 
-// One argument behind count unnamed ones.
+// Is the argument of that slot there already?
+fn is_set(a: Args, slot: u32) -> bool
+    ensures { λ r. ⌜ r ≡ isSet a slot ⌝ }
+{
+    let dev = a.dev;
+    let inst = a.inst;
+    let group = a.group;
+    let kind = a.kind;
+    let scope = a.scope;
+    if slot == DEV_SLOT {
+        return is_dev(dev);
+    }
+    if slot == INST_SLOT {
+        return is_number(inst);
+    }
+    if slot == GROUP_SLOT {
+        return is_group(group);
+    }
+    if slot == TYPE_SLOT {
+        return is_number(kind);
+    }
+    if slot == ADAPTER_SLOT {
+        return is_on(scope);
+    }
+    false
+}
+
+// Is it there, in a call that refuses a repeat?
+fn is_repeat(habit: Habit, a: Args, slot: u32) -> bool
+    ensures { λ r. ⌜ r ≡ isRepeat (mayRepeat habit) a slot ⌝ }
+{
+    match habit {
+        Habit::Archive => false,
+        Habit::Rule => is_set(a, slot),
+    }
+}
+
+// One argument behind those in a, of which count are unnamed; a repeat is refused before its value is read.
 fn arg_at(
     c: Cursor,
     text: &[u8],
     words: &[u32],
     s: &[u8],
     settings: Settings,
+    a: Args,
     count: u32,
 ) -> ItemAnswer
-    ensures { λ r. ⌜ r ≡ toItem (argAt (tokens (now (text .entry)) (now (words .entry))) (viewOf settings (now (s .entry))) count (c .index)) ⌝ }
+    ensures { λ r. ⌜ r ≡ toItem (argAt (tokens (now (text .entry)) (now (words .entry))) (viewOf settings (now (s .entry))) a count (c .index)) ⌝ }
 {
+    let i = c.index;
+    let habit = settings.habit;
     let slot = slot_at(c, text, words, count);
     match slot {
         Taken::No(refusal) => ItemAnswer::No(refusal),
-        Taken::Got(n, next) => item_at(next, text, words, s, settings, n),
+        Taken::Got(n, next) => {
+            if is_repeat(habit, a, n) {
+                return ItemAnswer::No(tokens::cursor::refuse(63, i));
+            }
+            item_at(next, text, words, s, settings, n)
+        }
     }
 }
 
@@ -391,7 +437,7 @@ fn args_list(c: Cursor, text: &[u8], words: &[u32], s: &[u8], settings: Settings
     let mut p = c;
     let mut left = tokens::record::count(words);
     while left != 0 {
-        let one = arg_at(p, text, words, s, settings, count);
+        let one = arg_at(p, text, words, s, settings, args, count);
         match one {
             ItemAnswer::No(refusal) => {
                 return ArgsAnswer::No(refusal);
@@ -499,6 +545,24 @@ fn is_number(n: Number) -> bool
     match n {
         Number::Absent => false,
         Number::Is(_) => true,
+    }
+}
+
+fn is_group(g: GroupArg) -> bool
+    ensures { λ r. ⌜ r ≡ isGroup g ⌝ }
+{
+    match g {
+        GroupArg::Absent => false,
+        GroupArg::Is(_, _) => true,
+    }
+}
+
+fn is_on(scope: Scope) -> bool
+    ensures { λ r. ⌜ r ≡ isOn scope ⌝ }
+{
+    match scope {
+        Scope::Any => false,
+        Scope::On(_) => true,
     }
 }
 

@@ -1,4 +1,4 @@
-// The cases on standard input.
+// The cases and calls on standard input.
 
 // The most digits of a number.
 const DIGITS: u32 = 18;
@@ -8,6 +8,15 @@ const LIMIT: u64 = 1000000000000000000;
 
 // What stands for a number where there is none; no case has as many words or bytes.
 pub const NONE: u64 = 18446744073709551615;
+
+// A call by the rule: a repeated argument is refused.
+pub const RULE: u32 = 1;
+
+// The archive loader's call: a repeated argument replaces the earlier one.
+pub const ARCHIVE: u32 = 2;
+
+// What stands for a habit where there is none.
+pub const NO_HABIT: u32 = 0;
 
 // The next byte of the input; 0 at its end.
 fn next_byte() -> u8 {
@@ -38,6 +47,33 @@ pub fn number(stop: u8) -> u64 {
         return NONE;
     }
     n
+}
+
+// Are these the next bytes of the input? It is read up to the first that differs.
+fn follows(expected: &[u8]) -> bool {
+    let mut i = 0;
+    while i < expected.len() {
+        if next_byte() != expected[i] {
+            return false;
+        }
+        i += 1;
+    }
+    true
+}
+
+// The habit of a call, and the space behind it. That of the shop is the rule's.
+pub fn habit() -> u32 {
+    let first = next_byte();
+    if first == b'r' && follows(b"ule ") {
+        return RULE;
+    }
+    if first == b'a' && follows(b"rchive ") {
+        return ARCHIVE;
+    }
+    if first == b's' && follows(b"hop ") {
+        return RULE;
+    }
+    NO_HABIT
 }
 
 // Reads so many bytes into the start of a buffer, and a line end behind them; false where they are not there or find no room.

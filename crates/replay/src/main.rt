@@ -1,4 +1,4 @@
-// The replay program: reads cases, hands each to the reader, and writes one answer a case. docs/REPLAY.md has its format.
+// The replay program: reads cases and calls, hands each to the reader, and writes one answer for each. docs/REPLAY.md has its format.
 mod forms;
 mod input;
 mod layout;
@@ -7,44 +7,79 @@ mod out;
 mod report;
 mod show;
 
-// Room for the longest text or sheet of a case, with its line end.
+// Room for the longest text, sheet or topics, with their line end.
 const BYTES: usize = 20001;
 
-// The most words that a case lends.
+// The most words that a call lends.
 const WORDS: usize = 8192;
 
+// The greatest party and primary adapter.
+const MOST: u64 = 255;
+
+// The first line of a case or a call: its habit and number, the words that it lends, and the sizes of what follows. A case has no topics.
+struct Head {
+    habit: u32,
+    id: u64,
+    words: usize,
+    text: usize,
+    sheet: usize,
+    has_topics: bool,
+    topics: usize,
+}
+
+// The call of a habit.
+fn read(habit: u32, text: &[u8], sheet: &[u8], words: &mut [u32], answer: &mut [u32]) -> u32 {
+    if habit == input::ARCHIVE {
+        return tergyosul::tergyosul_read_archive(text, sheet, words, answer);
+    }
+    tergyosul::tergyosul_read(text, sheet, words, answer)
+}
+
 // Calls the reader with so many words and writes its answer; false where there are fewer.
-fn call(id: u64, text: &[u8], sheet: &[u8], words: &mut [u32], count: usize) -> bool {
+fn call(habit: u32, id: u64, text: &[u8], sheet: &[u8], words: &mut [u32], count: usize) -> bool {
     if words.len() < count {
         return false;
     }
     let mut answer = [layout::UNTOUCHED; layout::ANSWER];
-    let number = tergyosul::tergyosul_read(text, sheet, &mut words[..count], &mut answer);
+    let number = read(habit, text, sheet, &mut words[..count], &mut answer);
     report::case(id, text, words, &answer, number);
     true
 }
 
-// Reads the text and the sheet of a case, and runs it; false where they are not there.
-fn run(id: u64, count: usize, text_size: usize, sheet_size: usize) -> bool {
+// Reads the topics of a call, which are not used yet; false where they are not there.
+fn pass_topics(head: Head) -> bool {
+    if !head.has_topics {
+        return true;
+    }
+    let mut topics = [0u8; BYTES];
+    input::fill(&mut topics, head.topics)
+}
+
+// Reads what follows the first line, and makes the call; false where it is not there.
+fn run(head: Head) -> bool {
     let mut words = [layout::UNTOUCHED; WORDS];
     let mut text = [0u8; BYTES];
     let mut sheet = [0u8; BYTES];
-    if !input::fill(&mut text, text_size) {
+    if !input::fill(&mut text, head.text) {
         return false;
     }
-    if !input::fill(&mut sheet, sheet_size) {
+    if !input::fill(&mut sheet, head.sheet) {
+        return false;
+    }
+    if !pass_topics(head) {
         return false;
     }
     call(
-        id,
-        text::part::part(&text, 0, text_size),
-        text::part::part(&sheet, 0, sheet_size),
+        head.habit,
+        head.id,
+        text::part::part(&text, 0, head.text),
+        text::part::part(&sheet, 0, head.sheet),
         &mut words,
-        count,
+        head.words,
     )
 }
 
-// What follows `case ` in a case; false where it is none.
+// What follows `case ` in a case, which is the archive loader's call; false where it is none.
 fn rest_of_case() -> bool {
     let id = input::number(b' ');
     let words = input::number(b' ');
@@ -53,19 +88,68 @@ fn rest_of_case() -> bool {
     if id == input::NONE {
         return false;
     }
-    run(id, words as usize, text as usize, sheet as usize)
+    run(Head {
+        habit: input::ARCHIVE,
+        id,
+        words: words as usize,
+        text: text as usize,
+        sheet: sheet as usize,
+        has_topics: false,
+        topics: 0,
+    })
 }
 
-// One case; false at the end of the input, and where it is no case.
+// The habit, the party and the primary adapter of a call, the last two of which are not used yet; are they there?
+fn are_settings(habit: u32, party: u64, primary: u64) -> bool {
+    habit != input::NO_HABIT && party <= MOST && primary <= MOST
+}
+
+// What follows `call ` in a call; false where it is none.
+fn rest_of_call() -> bool {
+    let id = input::number(b' ');
+    let habit = input::habit();
+    let words = input::number(b' ');
+    let party = input::number(b' ');
+    let primary = input::number(b' ');
+    let text = input::number(b' ');
+    let sheet = input::number(b' ');
+    let topics = input::number(b'\n');
+    if id == input::NONE {
+        return false;
+    }
+    if !are_settings(habit, party, primary) {
+        return false;
+    }
+    run(Head {
+        habit,
+        id,
+        words: words as usize,
+        text: text as usize,
+        sheet: sheet as usize,
+        has_topics: true,
+        topics: topics as usize,
+    })
+}
+
+// What follows the first word; false where that is neither `case ` nor `call `.
+fn rest(first: &[u8]) -> bool {
+    if text::part::same(first, b"case ") {
+        return rest_of_case();
+    }
+    if text::part::same(first, b"call ") {
+        return rest_of_call();
+    }
+    false
+}
+
+// One case or call; false at the end of the input, and where it is neither.
 fn one_case() -> bool {
     let mut first = [0u8; 5];
     if io::read_full(0, &mut first) == 0 {
         return false;
     }
-    if text::part::same(&first, b"case ") {
-        if rest_of_case() {
-            return true;
-        }
+    if rest(&first) {
+        return true;
     }
     io::write_all(1, b"bad input\n");
     false

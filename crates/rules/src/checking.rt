@@ -1,4 +1,4 @@
-// `rules check RULES SHEET`: both lists in plain words, or one diagnostic.
+// `rules check [--archive] RULES SHEET`: both lists in plain words, or one diagnostic.
 use crate::diagnose;
 use crate::files;
 use crate::layout;
@@ -37,19 +37,27 @@ fn accepted(text: &[u8], sheet: &[u8], answer: &[u32]) {
     say::numbers(answer, b"accepted: %n4 trigger%P4, %n5 condition%P5\n");
 }
 
-// Reads the rule and says what came of it.
-fn answered(text: &[u8], sheet: &[u8], text_name: &[u8], sheet_name: &[u8]) {
+// Reads the rule, by the archive loader's call or the default one, and says what came of it.
+fn answered(archive: bool, text: &[u8], sheet: &[u8], text_name: &[u8], sheet_name: &[u8]) {
     let mut words = [0u32; tokens::lexer::LEAST_WORDS];
     let mut answer = [0u32; 108];
-    if reading::read(text, sheet, &mut words, &mut answer) == 0 {
+    if reading::read(archive, text, sheet, &mut words, &mut answer) == 0 {
         accepted(text, sheet, &answer);
         return;
     }
-    diagnose::show(text, sheet, &mut words, &answer, text_name, sheet_name);
+    diagnose::show(
+        text,
+        sheet,
+        &mut words,
+        &answer,
+        text_name,
+        sheet_name,
+        archive,
+    );
 }
 
 // Reads both files and the rule.
-fn with_files(text_name: &[u8], sheet_name: &[u8]) {
+fn with_files(archive: bool, text_name: &[u8], sheet_name: &[u8]) {
     let mut text = [0u8; 20000];
     let mut sheet = [0u8; 20000];
     let first = files::load(text_name, &mut text);
@@ -63,6 +71,7 @@ fn with_files(text_name: &[u8], sheet_name: &[u8]) {
         return;
     }
     answered(
+        archive,
         text::part::part(&text, 0, first.size),
         text::part::part(&sheet, 0, second.size),
         text_name,
@@ -70,12 +79,14 @@ fn with_files(text_name: &[u8], sheet_name: &[u8]) {
     );
 }
 
-pub fn run() {
+// The names of the files are the words of the call at two indices.
+pub fn run(archive: bool, text_at: usize, sheet_at: usize) {
     let mut text_name = [0u8; 4095];
     let mut sheet_name = [0u8; 4095];
-    let n = os::arg(2, &mut text_name);
-    let m = os::arg(3, &mut sheet_name);
+    let n = os::arg(text_at, &mut text_name);
+    let m = os::arg(sheet_at, &mut sheet_name);
     with_files(
+        archive,
         text::part::part(&text_name, 0, n),
         text::part::part(&sheet_name, 0, m),
     );

@@ -84,7 +84,7 @@ fn verdict(answer: &[u32]) {
     say::numbers(answer, b"refused: %n0 at %n1:%n2\n");
 }
 
-// The diagnostic of what an answer refuses. The names are those of the files.
+// The diagnostic of what an answer, of the archive loader's call or the default one, refuses. The names are those of the files.
 pub fn show(
     text: &[u8],
     sheet: &[u8],
@@ -92,6 +92,7 @@ pub fn show(
     answer: &[u32],
     text_name: &[u8],
     sheet_name: &[u8],
+    archive: bool,
 ) {
     if layout::number(answer) == 3 {
         sheet_fault::show(sheet, sheet_name, layout::line(answer));
@@ -99,7 +100,7 @@ pub fn show(
         return;
     }
     let count = token_count(text, words);
-    let f = fault::of(text, words, answer, count);
+    let f = fault::of(text, words, answer, count, archive);
     of_text(text, sheet, words, text_name, f);
     verdict(answer);
 }

@@ -1,5 +1,5 @@
 // What may stand at a place of a rule. The reader itself is asked: the text before the place with a candidate behind it is read anew,
-// and the candidate belongs there unless it is refused itself.
+// by the call that refused the rule, and the candidate belongs there unless it is refused itself.
 use crate::fault::Fault;
 use crate::items;
 use crate::layout;
@@ -53,20 +53,34 @@ fn belongs(
     sheet: &[u8],
     words: &mut [u32],
     line: u32,
+    archive: bool,
 ) -> bool {
     if candidate.len() == 0 {
         return false;
     }
     let mut answer = [0u32; 108];
     let at = put(trial, start, candidate);
-    reading::read(text::part::part(trial, 0, at), sheet, words, &mut answer);
+    reading::read(
+        archive,
+        text::part::part(trial, 0, at),
+        sheet,
+        words,
+        &mut answer,
+    );
     is_taken(&answer, text::place::count_up(line), candidate)
 }
 
 // May the text end behind its first bytes?
-fn may_end(trial: &[u8], start: usize, sheet: &[u8], words: &mut [u32]) -> bool {
+fn may_end(trial: &[u8], start: usize, sheet: &[u8], words: &mut [u32], archive: bool) -> bool {
     let mut answer = [0u32; 108];
-    reading::read(text::part::part(trial, 0, start), sheet, words, &mut answer) == 0
+    reading::read(
+        archive,
+        text::part::part(trial, 0, start),
+        sheet,
+        words,
+        &mut answer,
+    )
+        == 0
 }
 
 // Marks the candidates that belong at the place, by their index in the list.
@@ -77,11 +91,13 @@ fn mark(
     sheet: &[u8],
     words: &mut [u32],
     line: u32,
+    archive: bool,
     marks: &mut [u8],
 ) {
     let mut k = 0;
     while k < 127 {
-        let is_in = belongs(trial, start, split::word(list, k), sheet, words, line);
+        let candidate = split::word(list, k);
+        let is_in = belongs(trial, start, candidate, sheet, words, line, archive);
         marks::set(marks, k, is_in);
         k += 1;
     }
@@ -146,9 +162,10 @@ pub fn show(text: &[u8], sheet: &[u8], words: &[u32], f: Fault) {
         sheet,
         &mut trial_words,
         f.line,
+        f.archive,
         &mut marks,
     );
-    let is_in = may_end(&trial, start, sheet, &mut trial_words);
+    let is_in = may_end(&trial, start, sheet, &mut trial_words, f.archive);
     marks::set(&mut marks, 127, is_in);
     lines(list, &marks, word_at(text, words, f), f.line);
 }

@@ -40,7 +40,8 @@ fn of_form(number: u32) {
 37 split the rule in two
 38 put a trigger first, as in `when lamp(\"Till\") turns on`
 39 split the rule in two
-40 leave it out: there are no days of the week after a time, no `day` and no `mqtt`";
+40 leave it out: there are no days of the week after a time, no `day` and no `mqtt`
+63 leave one of them out";
     out::entry(table, number);
 }
 

@@ -47,7 +47,7 @@ fn answered(text: &[u8], name: &[u8]) {
     let mut words = [0u32; tokens::lexer::LEAST_WORDS];
     let mut answer = [0u32; 4];
     if reading::lex(text, &mut words, &mut answer) != 0 {
-        diagnose::show(text, b"", &mut words, &answer, name, name);
+        diagnose::show(text, b"", &mut words, &answer, name, name, false);
         return;
     }
     accepted(text, &words, &answer);

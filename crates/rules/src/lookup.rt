@@ -9,6 +9,7 @@ use crate::say;
 use crate::sheets;
 use crate::sheets::Question;
 use crate::split;
+use sheet::Habit;
 
 // The adapters that the sheet lists.
 pub fn adapters(sheet: &[u8]) {
@@ -150,7 +151,7 @@ fn needed(sheet: &[u8], kind: u32, scope: u32, adapter: u32) -> u32 {
     if kind == 4 && scope != 256 {
         return 256;
     }
-    let own = sheet::rows::settings(sheet);
+    let own = sheet::rows::settings(Habit::Rule, sheet);
     if own.primary == adapter {
         return 256;
     }

@@ -1,4 +1,5 @@
-// The range of a number that is out of it. The reader itself is asked: the text is read anew with another number in its place.
+// The range of a number that is out of it. The reader itself is asked: the text is read anew, by the call that refused it, with another number in its
+// place.
 use crate::fault::Fault;
 use crate::layout;
 use crate::out;
@@ -21,6 +22,7 @@ fn is_in_range(text: &[u8], sheet: &[u8], f: Fault, behind: usize, number: &[u8]
     let mut answer = [0u32; 108];
     let at = put(&mut trial, text, f.at, behind, number);
     reading::read(
+        f.archive,
         text::part::part(&trial, 0, at),
         sheet,
         &mut words,

@@ -66,7 +66,8 @@ fn of_form(number: u32) {
 38 a rule begins with `when`
 39 a rule has at most four conditions, and this `and` begins the fifth
 40 this form is left out of the language
-41 the text goes on after the rule";
+41 the text goes on after the rule
+63 this argument is given twice";
     out::entry(table, number);
 }
 

@@ -14,6 +14,7 @@ use Rattle.sheet.specs.Kind.{noKind, kindOf, mostOf}
 use Rattle.sheet.specs.Line.{field, rest, hasComma, numeral, isName, checkedRow, readRow, primaryOf, adapterOf, lineBy, lineOf, nameOf}
 use Rattle.sheet.specs.Sheet.{Entry, lines, entryBy, entries, primaryBy, primaryLine}
 use Rattle.sheet.specs.View.{View, viewOf, settingsOf}
+use Rattle.sheet.specs.declared.Habit.{Habit}
 use Rattle.sheet.specs.Picks.{In-scope, Picks, past, here}
 use Rattle.sheet.specs.declared.line.Line.{Line}
 use Rattle.sheet.specs.declared.line.Line.the-variants.{Primary, Adapter, Row, Bad}
@@ -101,9 +102,9 @@ pub record View-in-range (view : View) : Type 0 where
   pub primary : view .primary ≤ lastAdapter
   pub rows : Rows-in-range (view .rows)
 
-pub view-in : (s : List ℕ) → View-in-range (viewOf (settingsOf s) s)
+pub view-in : (habit : Habit) (s : List ℕ) → View-in-range (viewOf (settingsOf habit s) s)
 unfolding viewOf settingsOf
-view-in s = record { primary = primary-line-in (lines s); rows = rows-in (lines s) }
+view-in habit s = record { primary = primary-line-in (lines s); rows = rows-in (lines s) }
 
 -- and so is the row that a name picks, with the range of its kind
 pub picked-in : {kind : ℕ} {name : List ℕ} {scope : Scope} {es : List Entry} {e : Entry} → Rows-in-range es → Picks kind name scope es e →

@@ -1,4 +1,5 @@
 // The lines of the name sheet: question 3, and the lookups that need no name.
+use crate::Habit;
 use crate::Settings;
 use crate::line;
 use crate::line::Line;
@@ -115,12 +116,13 @@ fn primary(s: &[u8]) -> u32
     }
 }
 
-// What a call sets by itself.
-pub fn settings(s: &[u8]) -> Settings
-    ensures { λ r. ⌜ r ≡ settingsOf (now (s .entry)) ⌝ }
+// What a call of that habit sets: the primary adapter is the sheet's.
+pub fn settings(habit: Habit, s: &[u8]) -> Settings
+    ensures { λ r. ⌜ r ≡ settingsOf habit (now (s .entry)) ⌝ }
 {
     Settings {
         primary: primary(s),
+        habit,
     }
 }
 

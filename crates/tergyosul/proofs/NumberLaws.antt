@@ -1,13 +1,14 @@
--- No answer of the whole call has the number `noRoom`: the result of `tergyosul_read` is that number just where there is no room.
+-- No answer of the whole call has the number `noRoom`: the result of `tergyosul_read`, or of `tergyosul_read_archive`, is that number just where there is
+-- no room.
 use Prim.Native.Nat.{ℕ, _<_, _≤_}
 use native.Mathlib.Omega.{arith}
 use mathlib.Core.Path.{_≡_, refl}
 use mathlib.Core.Bool.{Bool, true, false}
 use mathlib.Core.List.{List}
 use lib.ListN.{length}
-use lib.Dec.{ltb}
-use borrow.Author.Tests.{ltb-true}
-use Rattle.text.specs.Choice.{pick}
+use lib.Dec.{ltb, leb, eqb}
+use borrow.Author.Tests.{ltb-true, leb-true, eqb-true}
+use Rattle.text.specs.Choice.{pick, within}
 use Rattle.text.specs.Utf8.{Character}
 use Rattle.text.specs.Place.{checkOf}
 use Rattle.text.specs.declared.place.Checked.{Checked}
@@ -16,20 +17,22 @@ use Rattle.tokens.specs.Result.{Res, ok, no}
 use Rattle.tokens.specs.Lex.{Lexing, lexText, mostBytes, leastWords}
 use Rattle.tokens.specs.Layout.{Laid, end, refusal, next, Lexical}
 use Rattle.tokens.proofs.LayoutLaws.{laid}
+use Rattle.tokens.proofs.Okay.{both-true}
 use Rattle.sheet.specs.Sheet.{sheetCheck}
 use Rattle.sheet.specs.View.{View}
+use Rattle.sheet.specs.declared.Habit.{Habit}
 use Rattle.sheet.specs.declared.rows.Sheet.{Sheet}
 use Rattle.model.specs.Lists.{acceptedWith, refusedWith}
-use Rattle.references.proofs.NumberLaws.{Refuses}
+use Rattle.references.proofs.NumberLaws.{isRefusal, Refuses}
 use Rattle.language.proofs.RefusalLaws.{rule-refuses}
 use Rattle.language.specs.Section.{Lists}
 use Rattle.language.specs.Read.{parsed, ruleOf, lexedFrom, byText, bySheet, Outcome, seen, readOf}
 use Rattle.flat.specs.Flat.{answerWords}
 use Rattle.tergyosul.specs.Room.{noRoom, byRoom}
 
--- document 01's last number is 41
+-- the last number of documents 01 and 02 is 63
 abbrev Known : ℕ → Type 0
-Known n = n ≤ 41
+Known n = n ≤ 63
 
 lexical-known : {n : ℕ} → Lexical n → Known n
 lexical-known Lexical.no-token = omega arith
@@ -42,10 +45,17 @@ lexical-known Lexical.long = omega arith
 lexical-known Lexical.fine = omega arith
 lexical-known Lexical.too-many = omega arith
 
+refusal-known : (n : ℕ) → isRefusal n ≡ true → Known n
+refusal-known n = by (within 20 41 n) refl
+  where
+    by : (b : Bool) → within 20 41 n ≡ b → pick b true (eqb n 63) ≡ true → Known n
+    by true p q = let most : n ≤ 41 = leb-true n 41 (both-true (leb 20 n) (leb n 41) p .1) in omega arith
+    by false p q = let same : n ≡ 63 = eqb-true n 63 q in omega arith
+
 parsed-known : (l : Lexing) (m : Res Lists) → Refuses m → Known (parsed l m .number)
 unfolding parsed acceptedWith refusedWith Refuses
 parsed-known l (ok lists i) h = omega arith
-parsed-known l (no r) h = h .1
+parsed-known l (no r) h = refusal-known _ h
 
 lexed-known : (text : List ℕ) (view : View) (whole l : Lexing) {before : List Character} → Laid text before l →
     Known (lexedFrom text view whole l .number)
@@ -54,13 +64,13 @@ lexed-known text view whole l (end gap t h) = parsed-known whole _ (rule-refuses
 lexed-known text view whole l (refusal gap c rest t h n) = lexical-known n
 lexed-known text view whole l (next gap u rest t s h k) = lexed-known text view whole _ k
 
-module _ (text sheet words : List ℕ) where
-  text-known : (c : Checked) → Known (byText text (seen sheet) words c .answer .number)
+module _ (habit : Habit) (text sheet words : List ℕ) where
+  text-known : (c : Checked) → Known (byText text (seen habit sheet) words c .answer .number)
   unfolding byText refusedWith
-  text-known WellFormed = lexed-known text (seen sheet) (lexText text) (lexText text) (laid text)
+  text-known WellFormed = lexed-known text (seen habit sheet) (lexText text) (lexText text) (laid text)
   text-known (IllFormed line column) = omega arith
 
-  sheet-known : (x : Sheet) → Known (bySheet text (seen sheet) words x .answer .number)
+  sheet-known : (x : Sheet) → Known (bySheet text (seen habit sheet) words x .answer .number)
   unfolding bySheet refusedWith
   sheet-known Sheet.WellFormed = text-known (checkOf text)
   sheet-known (Sheet.BadLine n) = omega arith
@@ -69,7 +79,7 @@ module _ (text sheet words : List ℕ) where
   either true x y h k = h
   either false x y h k = k
 
-  read-known : Known (readOf text sheet words .answer .number)
+  read-known : Known (readOf habit text sheet words .answer .number)
   unfolding readOf refusedWith
   read-known =
       let first : Known 1 = omega arith in
@@ -78,12 +88,12 @@ module _ (text sheet words : List ℕ) where
       (either (ltb (length words) leastWords) (record { answer = refusedWith 2 0 0 0; buffer = words }) _ second (sheet-known (sheetCheck sheet)))
 
   -- "No refusal has this number."
-  pub no-room-alone : (answer : List ℕ) → byRoom answerWords answer noRoom (readOf text sheet words .answer .number) ≡ noRoom →
+  pub no-room-alone : (answer : List ℕ) → byRoom answerWords answer noRoom (readOf habit text sheet words .answer .number) ≡ noRoom →
       length answer < answerWords
   unfolding byRoom
   no-room-alone answer e = by (ltb (length answer) answerWords) refl e
     where
-      by : (b : Bool) → ltb (length answer) answerWords ≡ b → pick b noRoom (readOf text sheet words .answer .number) ≡ noRoom →
+      by : (b : Bool) → ltb (length answer) answerWords ≡ b → pick b noRoom (readOf habit text sheet words .answer .number) ≡ noRoom →
           length answer < answerWords
       by true p q = ltb-true _ _ p
       by false p q = let known = read-known in absurd (omega arith)

@@ -1,8 +1,10 @@
 // The library for C and Rust: numbers and slices only. A slice is passed as a pointer and a length.
+use sheet::Habit;
 use tokens::lexer::Lexed;
 ghost use mathlib.Core.Path.{_≡_};
 ghost use Rattle.tokens.specs.Lex.{lexAnswer, lexWords};
 ghost use Rattle.tokens.specs.Buffer.{lexNumber};
+ghost use Rattle.sheet.specs.declared.Habit.the-variants.{Rule, Archive};
 ghost use Rattle.language.specs.Read.{readOf};
 ghost use Rattle.tergyosul.specs.Lexing.{fourFirst, lexFlat};
 ghost use Rattle.tergyosul.specs.Room.{noRoom, lexAnswerWords, byRoom};
@@ -60,8 +62,23 @@ pub extern "C" fn tergyosul_lex(text: &[u8], words: &mut [u32], answer: &mut [u3
     }
 }
 
+// The call of either habit.
+fn read_by(habit: Habit, text: &[u8], sheet: &[u8], words: &mut [u32], answer: &mut [u32]) -> u32
+    ensures number { λ r. ⌜ r ≡ byRoom answerWords (now (answer .entry)) noRoom (readOf habit (now (text .entry)) (now (sheet .entry)) (now (words .entry)) .answer .number) ⌝ }
+    ensures words { λ _. ⌜ now (words .exit) ≡ byRoom answerWords (now (answer .entry)) (now (words .entry)) (readOf habit (now (text .entry)) (now (sheet .entry)) (now (words .entry)) .buffer) ⌝ }
+    ensures answer { λ _. ⌜ now (answer .exit) ≡ flat (now (answer .entry)) (readOf habit (now (text .entry)) (now (sheet .entry)) (now (words .entry)) .answer) ⌝ }
+{
+    if answer.len() < flat::ANSWER_WORDS {
+        return NO_ROOM;
+    }
+    let a = reader::read::read_by(habit, text, sheet, words);
+    flat::put_answer(answer, a);
+    a.number
+}
+
 // Reads a rule text with a name sheet. The result is 0, or the number of the refusal; answer gets the whole answer. If it has no room for
-// that, nothing is read or written, and the result is NO_ROOM. The words are lent for the records of the tokens: at least 5,120.
+// that, nothing is read or written, and the result is NO_ROOM. The words are lent for the records of the tokens: at least 5,120. A repeated
+// argument of `input(` is refused.
 #[no_mangle]
 pub extern "C" fn tergyosul_read(
     text: &[u8],
@@ -69,14 +86,24 @@ pub extern "C" fn tergyosul_read(
     words: &mut [u32],
     answer: &mut [u32],
 ) -> u32
-    ensures number { λ r. ⌜ r ≡ byRoom answerWords (now (answer .entry)) noRoom (readOf (now (text .entry)) (now (sheet .entry)) (now (words .entry)) .answer .number) ⌝ }
-    ensures words { λ _. ⌜ now (words .exit) ≡ byRoom answerWords (now (answer .entry)) (now (words .entry)) (readOf (now (text .entry)) (now (sheet .entry)) (now (words .entry)) .buffer) ⌝ }
-    ensures answer { λ _. ⌜ now (answer .exit) ≡ flat (now (answer .entry)) (readOf (now (text .entry)) (now (sheet .entry)) (now (words .entry)) .answer) ⌝ }
+    ensures number { λ r. ⌜ r ≡ byRoom answerWords (now (answer .entry)) noRoom (readOf Rule (now (text .entry)) (now (sheet .entry)) (now (words .entry)) .answer .number) ⌝ }
+    ensures words { λ _. ⌜ now (words .exit) ≡ byRoom answerWords (now (answer .entry)) (now (words .entry)) (readOf Rule (now (text .entry)) (now (sheet .entry)) (now (words .entry)) .buffer) ⌝ }
+    ensures answer { λ _. ⌜ now (answer .exit) ≡ flat (now (answer .entry)) (readOf Rule (now (text .entry)) (now (sheet .entry)) (now (words .entry)) .answer) ⌝ }
 {
-    if answer.len() < flat::ANSWER_WORDS {
-        return NO_ROOM;
-    }
-    let a = reader::read::read(text, sheet, words);
-    flat::put_answer(answer, a);
-    a.number
+    read_by(Habit::Rule, text, sheet, words, answer)
+}
+
+// The archive loader's call: the same, but that a repeated argument of `input(` replaces the earlier one.
+#[no_mangle]
+pub extern "C" fn tergyosul_read_archive(
+    text: &[u8],
+    sheet: &[u8],
+    words: &mut [u32],
+    answer: &mut [u32],
+) -> u32
+    ensures number { λ r. ⌜ r ≡ byRoom answerWords (now (answer .entry)) noRoom (readOf Archive (now (text .entry)) (now (sheet .entry)) (now (words .entry)) .answer .number) ⌝ }
+    ensures words { λ _. ⌜ now (words .exit) ≡ byRoom answerWords (now (answer .entry)) (now (words .entry)) (readOf Archive (now (text .entry)) (now (sheet .entry)) (now (words .entry)) .buffer) ⌝ }
+    ensures answer { λ _. ⌜ now (answer .exit) ≡ flat (now (answer .entry)) (readOf Archive (now (text .entry)) (now (sheet .entry)) (now (words .entry)) .answer) ⌝ }
+{
+    read_by(Habit::Archive, text, sheet, words, answer)
 }

@@ -1,8 +1,12 @@
 //! A case of the replay format (docs/REPLAY.md): what one call of the reader is given.
 
+mod settings;
+
+pub use settings::{own_primary, Habit, Settings};
+
 use std::io::{self, BufRead, Write};
 
-/// The largest token buffer, and the longest text or sheet, that the replay format allows.
+/// The largest token buffer, and the longest text, sheet or topics, that the replay format allows.
 pub const MOST_WORDS: usize = 8_192;
 pub const MOST_BYTES: usize = 20_000;
 
@@ -13,6 +17,31 @@ pub struct Case {
     pub words: usize,
     pub text: Vec<u8>,
     pub sheet: Vec<u8>,
+    /// Those of a `call` line; none for a `case` line.
+    pub settings: Option<Settings>,
+}
+
+impl Case {
+    /// A `case` line.
+    pub fn new(id: u64, words: usize, text: impl Into<Vec<u8>>, sheet: impl Into<Vec<u8>>) -> Case {
+        Case { id, words, text: text.into(), sheet: sheet.into(), settings: None }
+    }
+
+    /// A `case` line means the archive habit.
+    pub fn habit(&self) -> Habit {
+        self.settings.as_ref().map_or(Habit::Archive, |settings| settings.habit)
+    }
+
+    /// The same with this habit. A `case` line that has it already stays one.
+    pub fn with_habit(&self, habit: Habit) -> Case {
+        let mut case = self.clone();
+        match &mut case.settings {
+            Some(settings) => settings.habit = habit,
+            None if habit == Habit::Archive => {}
+            None => case.settings = Some(Settings::plain(habit, &self.sheet)),
+        }
+        case
+    }
 }
 
 /// The most tokens of a text.
@@ -61,13 +90,38 @@ fn number(field: &str) -> Option<u64> {
     if digits { field.parse().ok() } else { None }
 }
 
-fn header(line: &str) -> Option<(u64, usize, usize, usize)> {
+fn size(field: &str, most: usize) -> Option<usize> {
+    usize::try_from(number(field)?).ok().filter(|&n| n <= most)
+}
+
+fn byte(field: &str) -> Option<u8> {
+    u8::try_from(number(field)?).ok()
+}
+
+/// The first line of a case: the case without its bytes, and the lengths of text, sheet and topics.
+struct Header {
+    case: Case,
+    text: usize,
+    sheet: usize,
+    topics: usize,
+}
+
+fn header(line: &str) -> Option<Header> {
     let fields: Vec<&str> = line.strip_suffix('\n')?.split(' ').collect();
-    let ["case", id, words, text, sheet] = fields[..] else { return None };
-    let words = usize::try_from(number(words)?).ok().filter(|&n| n <= MOST_WORDS)?;
-    let text = usize::try_from(number(text)?).ok().filter(|&n| n <= MOST_BYTES)?;
-    let sheet = usize::try_from(number(sheet)?).ok().filter(|&n| n <= MOST_BYTES)?;
-    Some((number(id)?, words, text, sheet))
+    match fields[..] {
+        ["case", id, words, text, sheet] => header_of(id, words, text, sheet, None, "0"),
+        ["call", id, habit, words, party, primary, text, sheet, topics] => {
+            let (habit, party, primary) = (Habit::of(habit)?, byte(party)?, byte(primary)?);
+            let settings = Settings { habit, party, primary, topics: Vec::new() };
+            header_of(id, words, text, sheet, Some(settings), topics)
+        }
+        _ => None,
+    }
+}
+
+fn header_of(id: &str, words: &str, text: &str, sheet: &str, settings: Option<Settings>, topics: &str) -> Option<Header> {
+    let case = Case { settings, ..Case::new(number(id)?, size(words, MOST_WORDS)?, [], []) };
+    Some(Header { case, text: size(text, MOST_BYTES)?, sheet: size(sheet, MOST_BYTES)?, topics: size(topics, MOST_BYTES)? })
 }
 
 /// `length` bytes and the LF behind them; nothing where the input ends early or another byte stands there.
@@ -85,20 +139,39 @@ pub fn read_case(input: &mut impl BufRead) -> io::Result<Next> {
     if input.read_until(b'\n', &mut line)? == 0 {
         return Ok(Next::End);
     }
-    let Some((id, words, text, sheet)) = std::str::from_utf8(&line).ok().and_then(header) else {
+    let Some(Header { mut case, text, sheet, topics }) = std::str::from_utf8(&line).ok().and_then(header) else {
         return Ok(Next::Bad);
     };
     let Some(text) = body(input, text)? else { return Ok(Next::Bad) };
     let Some(sheet) = body(input, sheet)? else { return Ok(Next::Bad) };
-    Ok(Next::Case(Case { id, words, text, sheet }))
+    (case.text, case.sheet) = (text, sheet);
+    if let Some(settings) = &mut case.settings {
+        let Some(topics) = body(input, topics)? else { return Ok(Next::Bad) };
+        settings.topics = topics;
+    }
+    Ok(Next::Case(case))
+}
+
+/// The first line of a case, without its LF.
+pub fn first_line(case: &Case) -> String {
+    let Case { id, words, text, sheet, settings } = case;
+    let (text, sheet) = (text.len(), sheet.len());
+    match settings {
+        None => format!("case {id} {words} {text} {sheet}"),
+        Some(Settings { habit, party, primary, topics }) => {
+            format!("call {id} {} {words} {party} {primary} {text} {sheet} {}", habit.word(), topics.len())
+        }
+    }
 }
 
 pub fn write_case(out: &mut impl Write, case: &Case) -> io::Result<()> {
-    writeln!(out, "case {} {} {} {}", case.id, case.words, case.text.len(), case.sheet.len())?;
-    out.write_all(&case.text)?;
-    out.write_all(b"\n")?;
-    out.write_all(&case.sheet)?;
-    out.write_all(b"\n")
+    writeln!(out, "{}", first_line(case))?;
+    let topics = case.settings.as_ref().map(|settings| &settings.topics);
+    for bytes in [&case.text, &case.sheet].into_iter().chain(topics) {
+        out.write_all(bytes)?;
+        out.write_all(b"\n")?;
+    }
+    Ok(())
 }
 
 /// Answers every case of `input` on `out`, as the replay format orders it.
@@ -127,15 +200,40 @@ mod tests {
 
     #[test]
     fn a_written_case_is_read_back() {
-        let case = Case { id: 7, words: LEAST_WORDS, text: b"when \n\xff".to_vec(), sheet: b"primary,0".to_vec() };
+        let case = Case::new(7, LEAST_WORDS, b"when \n\xff", b"primary,9");
+        let other = Settings { habit: Habit::Shop, party: 255, primary: 3, topics: b"a\nb\n".to_vec() };
+        let calls = Habit::ALL.map(|habit| case.with_habit(habit));
+        let mut written = vec![case.clone(), Case { settings: Some(other), ..case }];
+        written.extend(calls);
         let mut bytes = Vec::new();
-        write_case(&mut bytes, &case).unwrap();
-        assert!(matches!(read_case(&mut &bytes[..]).unwrap(), Next::Case(c) if c == case));
+        written.iter().for_each(|case| write_case(&mut bytes, case).unwrap());
+        let mut input = &bytes[..];
+        for case in &written {
+            assert!(matches!(read_case(&mut input).unwrap(), Next::Case(c) if c == *case), "{}", first_line(case));
+        }
+        assert!(matches!(read_case(&mut input).unwrap(), Next::End));
+        assert_eq!(first_line(&written[1]), "call 7 shop 5120 255 3 7 9 4");
+        assert_eq!(first_line(&written[2]), "call 7 rule 5120 0 9 7 9 0");
+    }
+
+    #[test]
+    fn a_case_has_the_archive_habit() {
+        let case = Case::new(1, 0, [], b"primary,4".as_slice());
+        assert_eq!((case.habit(), case.with_habit(Habit::Archive)), (Habit::Archive, case.clone()));
+        let call = case.with_habit(Habit::Rule);
+        assert_eq!((call.habit(), call.with_habit(Habit::Archive).habit()), (Habit::Rule, Habit::Archive));
+        assert!(call.with_habit(Habit::Archive).settings.is_some());
     }
 
     #[test]
     fn what_is_no_case_is_bad() {
-        for bad in ["x", "case 1 2 3\n", "case 1 9000 0 0\n\n\n", "case 1 2 1 0\nab\n", "case 1 2 1 0\na", "case -1 2 0 0\n\n\n"] {
+        for bad in [
+            "x", "case 1 2 3\n", "case 1 9000 0 0\n\n\n", "case 1 2 1 0\nab\n", "case 1 2 1 0\na", "case -1 2 0 0\n\n\n",
+            "call 1 2 0 0\n\n\n", "call 1 rules 2 0 0 0 0 0\n\n\n\n", "call 1 rule 9000 0 0 0 0 0\n\n\n\n",
+            "call 1 rule 2 256 0 0 0 0\n\n\n\n", "call 1 rule 2 0 256 0 0 0\n\n\n\n", "call 1 rule 2 0 0 0 0 20001\n\n\n\n",
+            "call 1 rule 2 0 0 0 0 0\n\n\n", "call 1 rule 2 0 0 0 0 1\n\n\n\n", "call 1 rule 2 0 0 0 0\n\n\n\n",
+            "case 1 rule 2 0 0 0 0 0\n\n\n\n",
+        ] {
             assert!(matches!(read_case(&mut bad.as_bytes()).unwrap(), Next::Bad), "{bad:?}");
         }
     }

@@ -1,6 +1,7 @@
 //! Which sorts of durations a case shows that document 02 §2 is about: those of many fractional digits, and those that
 //! document 01's first 17 refuses, here called long.
 
+use crate::tokens::{refusal, tokens, Token};
 use cases::Case;
 
 const MANY_PLACES: usize = 20;
@@ -14,29 +15,13 @@ pub const SORTS: &[&str] = &[
     "long s", "long m", "long h", "every long", "every long 35", "solar long", "solar long 36", "last_fired long",
 ];
 
-/// A token line of an answer.
-struct Token<'a> {
-    kind: u32,
-    number: u32,
-    text: &'a str,
-    /// Line and column, as they stand in the answer.
-    place: &'a str,
-}
-
-fn token<'a>(text: &'a str, line: &'a str) -> Option<Token<'a>> {
-    let fields: Vec<&str> = line.strip_prefix("token ")?.splitn(5, ' ').collect();
-    let [kind, number, start, length, place] = fields[..] else { return None };
-    let (start, length): (usize, usize) = (start.parse().ok()?, length.parse().ok()?);
-    Some(Token { kind: kind.parse().ok()?, number: number.parse().ok()?, text: text.get(start..start + length)?, place })
-}
-
 /// The sorts that a case shows with this answer.
 pub fn sorts(case: &Case, answer: &str) -> Vec<&'static str> {
     let mut sorts = Vec::new();
     let Ok(text) = std::str::from_utf8(&case.text) else { return sorts };
-    let refusal = answer.lines().find_map(|line| line.strip_prefix("refused ")).and_then(|line| line.split_once(' '));
+    let refusal = refusal(answer);
     let mut before = "";
-    for token in answer.lines().filter_map(|line| token(text, line)) {
+    for token in tokens(text, answer) {
         if token.kind == 5 {
             taken(&token, &mut sorts);
             if second::formerly_17(token.text) {

@@ -1,6 +1,6 @@
 //! What a case covered, read off its answer in the replay format, and off its text for what the answer does not say.
 
-use crate::{durations, records};
+use crate::{durations, records, repeats};
 use cases::Case;
 use std::io::{self, Write};
 
@@ -8,10 +8,10 @@ const TOKENS: &[&str] = &[
     "1", "2", "3", "4", "5", "6", "7", "8", "9", "10", "11", "12", "13", "14", "15", "16", "17", "18", "19", "20", "21", "22",
 ];
 
-/// The refusals of document 01; there is no 5 to 9 and no 14.
+/// The refusals of document 01, without 5 to 9 and 14, and of document 02.
 const REFUSALS: &[&str] = &[
     "1", "2", "3", "4", "10", "11", "12", "13", "15", "16", "17", "18", "19", "20", "21", "22", "23", "24", "25", "26", "27",
-    "28", "29", "30", "31", "32", "33", "34", "35", "36", "37", "38", "39", "40", "41",
+    "28", "29", "30", "31", "32", "33", "34", "35", "36", "37", "38", "39", "40", "41", "63",
 ];
 
 const TRIGGERS: &[&str] = &[
@@ -62,7 +62,7 @@ const GROUPS: &[(&str, &[&str])] = &[
     ("refused", REFUSALS), ("token", TOKENS), ("trigger", TRIGGERS), ("condition", CONDITIONS), ("reading", READINGS),
     ("event", EVENTS), ("selector", SELECTORS), ("target", TARGETS), ("bound", BOUNDS), ("comparison", COMPARISONS),
     ("value", VALUES), ("choice", CHOICES), ("count", COUNTS), ("duration", durations::SORTS),
-    ("buffer", records::SORTS),
+    ("buffer", records::SORTS), ("repeat", repeats::SORTS), ("line", repeats::LINES),
 ];
 
 /// The places of the groups in `GROUPS`.
@@ -81,10 +81,12 @@ const CHOICE: usize = 11;
 const COUNT: usize = 12;
 const DURATION: usize = 13;
 const BUFFER: usize = 14;
+const REPEAT: usize = 15;
+const LINE: usize = 16;
 
 /// The set of what one answer shows; each member is numbered along `GROUPS`.
 #[derive(Debug, Clone, Copy, Default, PartialEq, Eq, Hash, PartialOrd, Ord)]
-pub struct Features([u64; 4]);
+pub struct Features([u64; 5]);
 
 /// The number of members there are.
 pub fn feature_count() -> usize {
@@ -108,6 +110,8 @@ impl Features {
         let mut set = Features::default();
         durations::sorts(case, answer).into_iter().for_each(|sort| set.mark(DURATION, Some(sort)));
         records::sorts(case, answer).into_iter().for_each(|sort| set.mark(BUFFER, Some(sort)));
+        repeats::sorts(case, answer).iter().for_each(|sort| set.mark(REPEAT, Some(sort)));
+        set.mark(LINE, Some(repeats::line(case)));
         for line in answer.lines() {
             let mut fields = line.split(' ');
             match fields.next() {

@@ -7,8 +7,10 @@ pub mod features;
 pub mod options;
 pub mod readers;
 mod records;
+mod repeats;
 pub mod run;
 pub mod shrink;
+mod tokens;
 pub mod vectors;
 
 #[cfg(test)]

@@ -1,7 +1,7 @@
 //! Compares the supplied Rust, the second reader and a replay program on generated cases. Exit 0 means that they
 //! agree and that everything was covered, 1 that not, 2 that the run itself failed.
 
-use cases::{write_case, Case};
+use cases::{first_line, write_case, Case};
 use compare_cases::external::External;
 use compare_cases::features::Coverage;
 use compare_cases::options::{self, Options, Stored, Vectors};
@@ -89,9 +89,8 @@ fn report(options: &Options, readers: &Readers, difference: &Difference) -> io::
         println!("on that case alone it does not: the cases before it in the batch matter");
     }
     let small = smallest(difference, readers);
-    let Case { id, words, text, sheet } = &small.case;
-    println!("case {id} {words} {} {}", text.len(), sheet.len());
-    println!("{}\n{}", text.escape_ascii(), sheet.escape_ascii());
+    println!("{}", first_line(&small.case));
+    println!("{}\n{}", small.case.text.escape_ascii(), small.case.sheet.escape_ascii());
     println!("--- the second reader\n{}", readers.second(&small.case));
     println!("--- {}\n{}", small.other.name(), small.answer);
     match &options.smallest {

@@ -1,14 +1,15 @@
 //! The readers that are compared, and the comparison of one case.
 
 use crate::external::External;
-use cases::Case;
+use crate::tokens::refusal;
+use cases::{Case, Habit};
 use std::cell::Cell;
 use std::panic::{self, AssertUnwindSafe};
 
 pub type Reader<'a> = &'a (dyn Fn(&Case) -> String + Sync);
 
 /// The second reader answers every case; the supplied one is held to it inside the domain, the replay program, if
-/// there is one, everywhere.
+/// there is one, everywhere. The second reader's default call is held to its own archive call.
 pub struct Readers<'a> {
     pub second: Reader<'a>,
     pub in_domain: &'a (dyn Fn(&Case) -> bool + Sync),
@@ -21,6 +22,9 @@ pub struct Readers<'a> {
 pub enum Other {
     Supplied,
     Replay,
+    /// The second reader's archive call. "The archive loader keeps a call with the old habit, unchanged" (document 02
+    /// §11): where the default call's answer is not 63, it is the archive call's.
+    Archive,
 }
 
 impl Other {
@@ -28,6 +32,7 @@ impl Other {
         match self {
             Other::Supplied => "the supplied Rust",
             Other::Replay => "the replay program",
+            Other::Archive => "the archive call",
         }
     }
 }
@@ -55,6 +60,10 @@ pub fn guarded(reader: Reader, case: &Case) -> String {
     answer.unwrap_or_else(|_| "panicked\n".to_string())
 }
 
+pub fn refused_as_repeat(answer: &str) -> bool {
+    matches!(refusal(answer), Some(("63", _)))
+}
+
 impl Readers<'_> {
     pub fn second(&self, case: &Case) -> String {
         guarded(self.second, case)
@@ -69,6 +78,10 @@ impl Readers<'_> {
         match other {
             Other::Supplied => self.in_domain(case).then(|| guarded(self.supplied, case)),
             Other::Replay => Some(self.replay.as_ref()?.answer(case)),
+            Other::Archive => {
+                let bound = case.habit() != Habit::Archive && !refused_as_repeat(&self.second(case));
+                bound.then(|| self.second(&case.with_habit(Habit::Archive)))
+            }
         }
     }
 

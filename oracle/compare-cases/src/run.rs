@@ -1,9 +1,9 @@
 //! A run over many cases, in batches, on one thread or more.
 
 use crate::features::Coverage;
-use crate::readers::{Other, Readers};
+use crate::readers::{refused_as_repeat, Other, Readers};
 use crate::shrink::shrink;
-use cases::Case;
+use cases::{Case, Habit};
 use std::io;
 use std::sync::atomic::{AtomicU64, Ordering};
 use std::thread;
@@ -107,11 +107,10 @@ fn compare(cases: &[Case], readers: &Readers, coverage: &mut Coverage) -> io::Re
     let mut answers = Vec::with_capacity(cases.len());
     for case in cases {
         let answer = readers.second(case);
-        let supplied = readers.other(Other::Supplied, case);
-        coverage.add(case, &answer, supplied.is_some());
-        if let Some(supplied) = supplied.filter(|supplied| *supplied != answer) {
-            let case = case.clone();
-            return Ok(Some(Difference { case, other: Other::Supplied, answer: supplied, alone: true }));
+        let (in_domain, found) = compare_habits(case, readers);
+        coverage.add(case, &answer, in_domain);
+        if found.is_some() {
+            return Ok(found);
         }
         answers.push(answer);
     }
@@ -120,6 +119,21 @@ fn compare(cases: &[Case], readers: &Readers, coverage: &mut Coverage) -> io::Re
     let Some(at) = (0..cases.len()).find(|&at| replayed[at] != answers[at]) else { return Ok(None) };
     let answer = std::mem::take(&mut replayed[at]);
     Ok(Some(isolate(cases, at, answer, readers)))
+}
+
+/// The archive call of a case against the supplied Rust, if the domain has it, and its default call against its archive
+/// call. Says whether the domain has it.
+fn compare_habits(case: &Case, readers: &Readers) -> (bool, Option<Difference>) {
+    let (archive, default) = (case.with_habit(Habit::Archive), case.with_habit(Habit::Rule));
+    let (old, new) = (readers.second(&archive), readers.second(&default));
+    let supplied = readers.other(Other::Supplied, &archive);
+    let in_domain = supplied.is_some();
+    let differs = |case, other, answer| Some(Difference { case, other, answer, alone: true });
+    match supplied.filter(|supplied| *supplied != old) {
+        Some(answer) => (in_domain, differs(archive, Other::Supplied, answer)),
+        None if new != old && !refused_as_repeat(&new) => (in_domain, differs(default, Other::Archive, old)),
+        None => (in_domain, None),
+    }
 }
 
 /// The replay program differed at `at`. If it does not do so on that case alone, perhaps it does on a later one that

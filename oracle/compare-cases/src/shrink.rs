@@ -14,6 +14,7 @@ pub fn shrink(case: &Case, tries: usize, shows: &mut dyn FnMut(&Case) -> bool) -
     loop {
         let size = weight(&best);
         with_usual_words(&mut best, &mut shows);
+        without_settings(&mut best, &mut shows);
         for split in [rows as fn(&[u8]) -> Vec<&[u8]>, bytes] {
             best.sheet = drop_pieces(&best.sheet, split, &mut |sheet| shows(&Case { sheet: sheet.to_vec(), ..best.clone() }));
         }
@@ -35,6 +36,14 @@ fn with_usual_words(best: &mut Case, shows: &mut dyn FnMut(&Case) -> bool) {
     let usual = Case { words: USUAL_WORDS, ..best.clone() };
     if best.words != USUAL_WORDS && shows(&usual) {
         *best = usual;
+    }
+}
+
+/// So is one that need not be a `call` line.
+fn without_settings(best: &mut Case, shows: &mut dyn FnMut(&Case) -> bool) {
+    let plain = Case { settings: None, ..best.clone() };
+    if best.settings.is_some() && shows(&plain) {
+        *best = plain;
     }
 }
 

@@ -5,7 +5,7 @@ use crate::readers::{guarded, quiet_panics, Other, Reader, Readers};
 use crate::run::{run, smallest, Difference, Outcome, Plan};
 use crate::shrink::shrink;
 use crate::vectors;
-use cases::{Case, FORMER_LEAST_WORDS, LEAST_WORDS, MOST_WORDS};
+use cases::{Case, Habit, FORMER_LEAST_WORDS, LEAST_WORDS, MOST_WORDS};
 
 const SEED: u64 = 11;
 
@@ -92,7 +92,7 @@ fn a_panic_is_an_answer() {
 
 #[test]
 fn shrinking_leaves_what_matters() {
-    let case = Case { id: 1, words: MOST_WORDS, text: b"when lamp(\"Aisle\") turns on # x".to_vec(), sheet: b"primary,0\nlamp,0,1,a\nlamp,1,2,b\n".to_vec() };
+    let case = Case::new(1, MOST_WORDS, b"when lamp(\"Aisle\") turns on # x", b"primary,0\nlamp,0,1,a\nlamp,1,2,b\n");
     let mut asked = 0;
     let small = shrink(&case, 10_000, &mut |case| {
         asked += 1;
@@ -104,7 +104,7 @@ fn shrinking_leaves_what_matters() {
 
 #[test]
 fn shrinking_keeps_to_its_tries() {
-    let case = Case { id: 1, words: 0, text: vec![b'a'; 5_000], sheet: Vec::new() };
+    let case = Case::new(1, 0, vec![b'a'; 5_000], []);
     let mut asked = 0;
     let small = shrink(&case, 50, &mut |case| { asked += 1; case.text.len() > 10 });
     assert!(asked <= 50 && small.text.len() > 10);
@@ -115,22 +115,22 @@ fn features_are_read_off_an_answer() {
     let answer = "case 1\ntoken 5 5000 0 2 1 1\ntoken 22 0 0 1 1 1\nbuffer kept\naccepted 2 3\n\
         T input_event group 0 2 - raw 5\nT hcl_override broadcast 0 clears\n\
         C lamp_level 0 1 ge offset lamp_cct 0 2 -5\nC var_compare x61 ne text x\nC time_in_range clock 5 solar sunset -3\n";
-    let case = Case { id: 1, words: LEAST_WORDS, text: b"5s".to_vec(), sheet: Vec::new() };
+    let case = Case::new(1, LEAST_WORDS, b"5s", []);
     let names: Vec<String> = Features::of(&case, answer).members().map(feature_name).collect();
     let wanted = [
         "token 5", "token 22", "trigger input_event", "trigger hcl_override", "condition time_in_range", "condition lamp_level",
         "condition var_compare", "reading lamp_cct", "event raw", "selector group", "target broadcast", "bound clock",
         "bound sunset", "comparison ne", "comparison ge", "value offset", "value text", "choice T hcl_override clears",
-        "count T 2", "count C 3", "buffer least taken",
+        "count T 2", "count C 3", "buffer least taken", "line case",
     ];
     assert_eq!(names, wanted);
-    assert!(feature_count() <= 256);
+    assert!(feature_count() <= 320);
 }
 
 #[test]
 fn sorts_of_durations_are_read_off_the_text() {
     let shown = |text: &str| {
-        let case = Case { id: 1, words: LEAST_WORDS, text: text.into(), sheet: b"primary,0".to_vec() };
+        let case = Case::new(1, LEAST_WORDS, text, b"primary,0");
         let names = Features::of(&case, &second::answer(&case)).members().map(feature_name);
         names.filter_map(|name| name.strip_prefix("duration ").map(String::from)).collect::<Vec<_>>().join(", ")
     };
@@ -153,9 +153,61 @@ fn sorts_of_durations_are_read_off_the_text() {
 }
 
 #[test]
+fn repeats_and_what_stands_beside_them_are_counted() {
+    let shown = |habit: Habit, arguments: &str| {
+        let case = Case::new(1, LEAST_WORDS, format!("when input({arguments}"), b"primary,0\nadapter,0\n").with_habit(habit);
+        let names = Features::of(&case, &second::answer(&case)).members().map(feature_name);
+        names.filter_map(|name| name.strip_prefix("repeat ").map(String::from)).collect::<Vec<_>>().join(", ")
+    };
+    for (arguments, wanted) in [
+        ("dev=1, dev=1, inst=2) is press", "63 dev, 63 same value, 63 in a trigger, 63 for accepted"),
+        ("dev=1, inst=2, inst=99) is press", "63 inst, 63 in a trigger, 63 for 22"),
+        ("dev=1,) is press", "63 unnamed dev, 63 at ), 63 in a trigger, 63 for 20"),
+        ("1, inst=2, ", "63 unnamed inst, 63 at the end, 63 in a trigger, 63 for 20"),
+        ("dev=1, dev==2", "63 unnamed dev, 63 at a word, 63 in a trigger, 63 for 20"),
+        ("1, 2, dev=3, 4)", "63 dev, 63 in a trigger, 63 for 26"),
+        ("1, dev=\"\", inst=2) is press if sun", "63 dev, 63 in a trigger, 63 for 23"),
+        ("1, dev=3, inst=2) is press if sun", "63 dev, 63 in a trigger, 63 for 20"),
+        ("1, dev=3, inst=2) is press then", "63 dev, 63 in a trigger, 63 for a later fault"),
+        ("1, 2) is press if input(1, 2, type=1, type=1) is occupied", "63 type, 63 same value, 63 in a condition, 63 for accepted"),
+        ("1, 2) is press if var(\"v\") > input(1, 2, 3", "26 kept"),
+        ("1, 2) is press if var(\"v\") > input(1, \"a\", inst=3", ""),
+        ("1, 2) is press if var(\"v\") > input(1, dev=\"a\", inst=3", "63 dev, 63 in a reading, 63 for 20"),
+        ("1, 2, 3, inst=4, inst=5)", "26 first, 26 kept"),
+        ("inst=99, inst=4)", "22 first"),
+        ("1, 2) is press", ""),
+        ("1, 2) is press when lamp(1, adapter=0, adapter=0) turns on", "20 for a second adapter clause"),
+    ] {
+        assert_eq!(shown(Habit::Rule, arguments), wanted, "{arguments}");
+    }
+    assert_eq!(shown(Habit::Archive, "dev=1, dev=1, inst=2) is press"), "replaced, accepted");
+    assert_eq!(shown(Habit::Archive, "dev=1, dev=1"), "replaced, refused");
+    assert_eq!(shown(Habit::Archive, "dev=1, inst=1"), "");
+}
+
+/// A default call that says more than 63 differently from the archive call is found, and so is a changed archive call.
+#[test]
+fn the_default_call_is_held_to_the_archive_call() {
+    let unlike = |case: &Case| {
+        let answer = second::answer(case);
+        if case.habit() == Habit::Rule { answer.replace("refused 26", "refused 20") } else { answer }
+    };
+    let found = difference(&unlike, &second::answer, 2).expect("a difference");
+    assert_eq!((found.other, found.case.habit()), (Other::Archive, Habit::Rule));
+    assert!(found.case.text.len() < 40 && second::answer(&found.case).contains("refused 26"), "{}", found.case.text.escape_ascii());
+    let strict = |case: &Case| second::answer(&case.with_habit(Habit::Rule));
+    let readers = Readers { second: &strict, in_domain: &second::in_domain, supplied: &supplied::answer, replay: None };
+    let plan = Plan { make: &generated, count: 30_000, batch: 1_000, threads: 1, progress: false };
+    let Outcome::Different(found) = run(&plan, &readers).unwrap() else { panic!("no difference") };
+    let small = smallest(&found, &readers);
+    assert_eq!((small.other, small.case.habit()), (Other::Supplied, Habit::Archive));
+    assert!(small.case.settings.is_none() && strict(&small.case).contains("refused 63"));
+}
+
+#[test]
 fn sizes_of_buffers_and_far_places_are_counted() {
     let shown = |words: usize, text: String| {
-        let case = Case { id: 1, words, text: text.into(), sheet: b"primary,0".to_vec() };
+        let case = Case::new(1, words, text, b"primary,0");
         let names = Features::of(&case, &second::answer(&case)).members().map(feature_name);
         names.filter_map(|name| name.strip_prefix("buffer ").map(String::from)).collect::<Vec<_>>().join(", ")
     };
@@ -190,7 +242,7 @@ fn the_generators_durations_are_what_they_are_called() {
 #[test]
 fn coverage_counts_cases_and_names_zeros() {
     let mut coverage = Coverage::default();
-    let case = Case { id: 1, words: LEAST_WORDS, text: Vec::new(), sheet: Vec::new() };
+    let case = Case::new(1, LEAST_WORDS, [], []);
     coverage.add(&case, "case 1\nbuffer kept\nrefused 41 1 1 0\n", true);
     coverage.add(&case, "case 2\nbuffer kept\naccepted 1 0\nT every 1000\n", false);
     let mut both = coverage.clone();
@@ -198,7 +250,7 @@ fn coverage_counts_cases_and_names_zeros() {
     assert_eq!((both.cases, both.in_domain, both.accepted, both.refused), (4, 2, 2, 2));
     let zeros = both.zeros();
     assert!(zeros.contains(&"refused 40".to_string()) && !zeros.contains(&"refused 41".to_string()));
-    assert_eq!(zeros.len(), feature_count() - 5);
+    assert_eq!(zeros.len(), feature_count() - 6);
 }
 
 #[test]
@@ -223,7 +275,7 @@ fn options_are_read() {
 #[test]
 fn vectors_take_the_smallest_first() {
     let answer = |case: &Case| format!("case {}\nrefused {} 1 1 0\n", case.id, 20 + case.text.len() % 3);
-    let make = |index: u64| Case { id: index, words: LEAST_WORDS, text: vec![b'a'; 60 - index as usize], sheet: Vec::new() };
+    let make = |index: u64| Case::new(index, LEAST_WORDS, vec![b'a'; 60 - index as usize], []);
     let chosen = vectors::choose(4, 60, &make, vec![make(5)], &answer);
     assert_eq!(chosen.iter().map(|case| case.id).collect::<Vec<_>>(), [1, 2, 3, 4]);
     let mut lengths: Vec<usize> = chosen.iter().map(|case| case.text.len()).collect();
@@ -233,10 +285,12 @@ fn vectors_take_the_smallest_first() {
 
 #[test]
 fn stored_cases_are_extended_once() {
-    let make = |id: u64, text: &str| Case { id, words: LEAST_WORDS, text: text.into(), sheet: Vec::new() };
+    let make = |id: u64, text: &str| Case::new(id, LEAST_WORDS, text, []);
     let stored = vec![make(1, "a"), make(2, "b")];
     let more = || vec![make(0, "b"), make(0, "c"), make(0, "d")];
     let extended = vectors::extended(stored, more());
     assert_eq!(extended, [make(1, "a"), make(2, "b"), make(3, "c"), make(4, "d")]);
     assert_eq!(vectors::extended(extended.clone(), more()), extended);
+    let call = make(0, "a").with_habit(Habit::Archive).with_habit(Habit::Rule);
+    assert_eq!(vectors::extended(extended, vec![call.clone()])[4], Case { id: 5, ..call });
 }

@@ -152,7 +152,7 @@ pub fn stored(input: &str) -> io::Result<Vec<Case>> {
 /// The cases, unchanged, and behind them those of `more` that are not among them, numbered on.
 pub fn extended(mut cases: Vec<Case>, more: Vec<Case>) -> Vec<Case> {
     for case in more {
-        if !cases.iter().any(|known| (known.words, &known.text, &known.sheet) == (case.words, &case.text, &case.sheet)) {
+        if !cases.iter().any(|known| *known == Case { id: known.id, ..case.clone() }) {
             let id = cases.last().map_or(1, |last| last.id + 1);
             cases.push(Case { id, ..case });
         }

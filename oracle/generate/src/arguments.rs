@@ -4,7 +4,7 @@ use crate::grammar::Walk;
 use crate::sheet::Kind;
 
 #[derive(Clone, Copy, PartialEq)]
-enum Argument {
+pub enum Argument {
     Dev,
     Inst,
     Group,
@@ -22,12 +22,12 @@ const ALL: [Argument; 7] = [Dev, Inst, Group, Type, Adapter, First, Second];
 impl Walk<'_> {
     /// ARGS; where `group_fits`, often the arguments of an instance group.
     pub fn arguments(&mut self, group_fits: bool) {
-        let mut list = if self.rng.once_in(if group_fits { 2 } else { 12 }) { self.group() } else { self.instance() };
-        if self.rng.once_in(8) {
-            let again = self.rng.pick(&list);
-            let at = self.rng.below(list.len() + 1);
-            list.insert(at, again);
+        match self.rng.below(24) {
+            0..=2 => return self.twice(group_fits),
+            3 | 4 => return self.beside_repeats(),
+            _ => {}
         }
+        let mut list = self.complete(group_fits);
         if self.rng.once_in(if self.slips > 0 { 8 } else { 60 }) {
             let more = self.rng.pick(&ALL);
             let at = self.rng.below(list.len() + 1);
@@ -37,6 +37,11 @@ impl Walk<'_> {
             list.pop();
         }
         self.write(&list);
+    }
+
+    /// Arguments that make up an instance or an instance group.
+    pub(crate) fn complete(&mut self, group_fits: bool) -> Vec<Argument> {
+        if self.rng.once_in(if group_fits { 2 } else { 12 }) { self.group() } else { self.instance() }
     }
 
     fn instance(&mut self) -> Vec<Argument> {
@@ -73,17 +78,22 @@ impl Walk<'_> {
             if at > 0 {
                 self.say(",");
             }
-            match argument {
-                Dev => { self.say("dev ="); suiting = self.name_or_id(Kind::Input) }
-                First => suiting = self.name_or_id(Kind::Input),
-                Inst => { self.say("inst ="); self.number(31) }
-                Second => self.number(31),
-                Group => { self.say("group ="); self.number(31) }
-                Type => { self.say("type ="); self.input_type() }
-                Adapter => { self.say("adapter ="); self.adapter(suiting) }
-            }
+            self.argument(argument, &mut suiting);
         }
         self.say(")");
+    }
+
+    /// One argument; `suiting` is the adapter that suits the last dev.
+    pub(crate) fn argument(&mut self, argument: Argument, suiting: &mut Option<u8>) {
+        match argument {
+            Dev => { self.say("dev ="); *suiting = self.name_or_id(Kind::Input) }
+            First => *suiting = self.name_or_id(Kind::Input),
+            Inst => { self.say("inst ="); self.number(31) }
+            Second => self.number(31),
+            Group => { self.say("group ="); self.number(31) }
+            Type => { self.say("type ="); self.input_type() }
+            Adapter => { self.say("adapter ="); self.adapter(*suiting) }
+        }
     }
 
     fn input_type(&mut self) {

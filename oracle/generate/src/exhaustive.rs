@@ -1,7 +1,7 @@
 //! Every sequence of a few pieces, over small vocabularies and behind fixed beginnings, so that whole triggers,
 //! conditions, arguments and readings come up with all their near misses.
 
-use cases::{Case, LEAST_WORDS};
+use cases::{Case, Habit, LEAST_WORDS};
 
 /// What the pieces make up.
 #[derive(Clone, Copy, PartialEq)]
@@ -13,6 +13,8 @@ enum Place {
 /// One family of sequences. `most` bounds their length, since a wide vocabulary soon gives too many.
 struct Run {
     place: Place,
+    /// A `case` line for the archive habit, a `call` line for another.
+    habit: Habit,
     prefix: &'static [u8],
     glue: &'static [u8],
     vocabulary: &'static [&'static [u8]],
@@ -26,8 +28,12 @@ macro_rules! pieces {
 
 macro_rules! text {
     ($prefix:expr, $suffix:expr, $most:expr, $vocabulary:expr) => {
+        text!(Habit::Archive, $prefix, $suffix, $most, $vocabulary)
+    };
+    ($habit:expr, $prefix:expr, $suffix:expr, $most:expr, $vocabulary:expr) => {
         Run {
             place: Place::Text,
+            habit: $habit,
             prefix: $prefix.as_bytes(),
             glue: b" ",
             vocabulary: $vocabulary,
@@ -53,6 +59,10 @@ const WIDE: &[&[u8]] = pieces![
     "7:05", "5s", "1.5", "\"a\"", "\"\"", "(1)", "(\"a\")", "(1,2)", "@",
 ];
 
+const ARGUMENT_PARTS: &[&[u8]] = pieces!["dev", "inst", "group", "type", "=", ",", "1", "32", "\"a\""];
+const ARGUMENTS: &[&[u8]] = pieces!["dev=64", "dev=\"b\"", "dev=\"\"", "inst=1", "inst=32", "group=2", "group=32", "type=button",
+    "type=foo", "adapter=1", "adapter=2", ",", "3", "\"a\"", "foo=1"];
+
 const RUNS: &[Run] = &[
     text!("", "", 5, pieces!["when", "if", "and", "controller", "starts", "is", "active", "http", "trigger", "every", "5s",
         "at", "7:05", "sunset"]),
@@ -64,9 +74,12 @@ const RUNS: &[Run] = &[
     text!("when input(1,2)", "", 2, WIDE),
     text!("when lamp(", ") turns on", 5, pieces!["\"a\"", "\"b\"", "\"c\"", "\"d\"", "64", ",", "adapter", "=", "1", "2", ")"]),
     text!("when group(", ") becomes any_on", 5, pieces!["\"a\"", "\"b\"", "15", "16", ",", "adapter", "=", "1", ")"]),
-    text!("when input(", ") is press", 6, pieces!["dev", "inst", "group", "type", "=", ",", "1", "32", "\"a\""]),
-    text!("when input(", ") is press", 4, pieces!["dev=64", "dev=\"b\"", "dev=\"\"", "inst=1", "inst=32", "group=2", "group=32",
-        "type=button", "type=foo", "adapter=1", "adapter=2", ",", "3", "\"a\"", "foo=1"]),
+    text!("when input(", ") is press", 6, ARGUMENT_PARTS),
+    text!("when input(", ") is press", 4, ARGUMENTS),
+    text!(Habit::Rule, "when input(", ") is press", 6, ARGUMENT_PARTS),
+    text!(Habit::Rule, "when input(", ") is press", 4, ARGUMENTS),
+    text!(Habit::Rule, "when input(", "", 5, pieces!["dev=1", "inst=2", "group=3", "type=4", "dev", "=", "1", ",", ")", "\"a\""]),
+    text!(Habit::Rule, "when controller starts if input( dev=1 ,", ").light above 5", 4, ARGUMENTS),
     text!("when input( 1 , 2 )", "", 5, pieces!["is", "becomes", "press", "event", "(", "data", "=", "1024", "7", ")", "occupied",
         ".", "light", "crosses", "above"]),
     text!("when input(group=1)", "", 3, pieces!["is", "becomes", "press", "occupied", ".", "light", "position", "changes", "if",
@@ -86,16 +99,16 @@ const RUNS: &[Run] = &[
     text!("when controller starts if input(1,2)", "", 5, pieces!["is", "occupied", ".", "light", "above", "below", "5", "-", "time",
         "now", "and"]),
     text!("when controller starts if last_fired(", "", 5, pieces!["\"r\"", "\"\"", ")", "older", "than", "5s", "5", "1.5"]),
-    Run { place: Place::Text, prefix: b"", glue: b"", suffix: b"", most: 5, vocabulary: pieces![
+    Run { place: Place::Text, habit: Habit::Archive, prefix: b"", glue: b"", suffix: b"", most: 5, vocabulary: pieces![
         "0", "5", ".", ":", "s", "m", "x", "\"", "#", "!", "=", ">", "_", "\n", "@", "\u{e9}"] },
-    Run { place: Place::Text, prefix: b"when every ", glue: b"", suffix: b"", most: 5, vocabulary: pieces![
+    Run { place: Place::Text, habit: Habit::Archive, prefix: b"when every ", glue: b"", suffix: b"", most: 5, vocabulary: pieces![
         "0", "1", ".", "4294967", "295", "0000000000", "00000000000000000000", "ms", "s", "h"] },
-    Run { place: Place::Text, prefix: b"\"\xc3\xa9", glue: b"", suffix: b"\" @", most: 4, vocabulary: &[
+    Run { place: Place::Text, habit: Habit::Archive, prefix: b"\"\xc3\xa9", glue: b"", suffix: b"\" @", most: 4, vocabulary: &[
         b"\x7f", b"\x80", b"\x8f", b"\x90", b"\x9f", b"\xa0", b"\xbf", b"\xc1", b"\xc2", b"\xe0", b"\xe1", b"\xed", b"\xef",
         b"\xf0", b"\xf4", b"\xf5"] },
-    Run { place: Place::Sheet, prefix: b"primary,0\n", glue: b"", suffix: b"", most: 6, vocabulary: pieces![
+    Run { place: Place::Sheet, habit: Habit::Archive, prefix: b"primary,0\n", glue: b"", suffix: b"", most: 6, vocabulary: pieces![
         "lamp", "adapter", ",", "0", "6", "a", "\"", "\n"] },
-    Run { place: Place::Sheet, prefix: b"", glue: b"", suffix: b"", most: 6, vocabulary: pieces![
+    Run { place: Place::Sheet, habit: Habit::Archive, prefix: b"", glue: b"", suffix: b"", most: 6, vocabulary: pieces![
         "primary", "adapter", ",", "0", "25", "\n", "lamp,0,1,b"] },
 ];
 
@@ -137,7 +150,7 @@ pub fn exhaustive_case(length: usize, index: u64) -> Case {
                 Place::Text => (made, SHEET.to_vec()),
                 Place::Sheet => (b"when lamp(\"b\") turns on".to_vec(), made),
             };
-            return Case { id: index, words: LEAST_WORDS, text, sheet };
+            return Case::new(index, LEAST_WORDS, text, sheet).with_habit(run.habit);
         }
         left -= here;
     }

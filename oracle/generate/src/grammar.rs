@@ -1,8 +1,9 @@
 //! Random walks over document 01's grammar.
 //!
 //! A careful walk writes only what the grammar has, with numbers in range and adapters that are listed; whether its
-//! names have one row in scope is left to chance. A walk that slips does, here and there, what the reader must
-//! refuse: a word that is no choice, a number one past the last, a name too long, a part left out or too many.
+//! names have one row in scope is left to chance, and its input arguments may repeat (repeats.rs). A walk that slips
+//! does, here and there, what the reader must refuse: a word that is no choice, a number one past the last, a name too
+//! long, a part left out or too many.
 
 use crate::durations;
 use crate::rng::Rng;
@@ -19,6 +20,8 @@ pub struct Walk<'a> {
     /// At one choice in how many this walk slips; 0 for never.
     pub slips: usize,
     pub out: Vec<Token>,
+    /// Where the text is to end early, counted in tokens.
+    pub end: Option<usize>,
 }
 
 /// How often a walk slips: not at all, mostly once in a text, or several times, so that it shows which fault is met
@@ -110,7 +113,7 @@ const READINGS: &[fn(&mut Walk)] = &[
 
 impl<'a> Walk<'a> {
     pub fn new(rng: &'a mut Rng, sheet: &'a Sheet, slips: usize) -> Walk<'a> {
-        Walk { rng, sheet, slips, out: Vec::with_capacity(48) }
+        Walk { rng, sheet, slips, out: Vec::with_capacity(48), end: None }
     }
 
     /// A whole text.
@@ -131,6 +134,12 @@ impl<'a> Walk<'a> {
             let junk = self.rng.pick(WORDS);
             self.say(junk);
         }
+    }
+
+    /// The tokens written, up to an early end.
+    pub fn tokens(mut self) -> Vec<Token> {
+        self.out.truncate(self.end.unwrap_or(self.out.len()));
+        self.out
     }
 
     /// A text of one trigger and perhaps one condition, so that the faults of a walk that slips often meet in one form.
@@ -262,6 +271,10 @@ impl<'a> Walk<'a> {
         if self.rng.once_in(3) && (!self.sheet.listed.is_empty() || self.rng.once_in(8)) {
             self.say(", adapter =");
             self.adapter(suiting);
+            if self.slip() {
+                self.say(", adapter =");
+                self.adapter(suiting);
+            }
         }
     }
 

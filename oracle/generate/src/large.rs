@@ -108,7 +108,7 @@ fn long(rng: &mut Rng, sheet: &Sheet) -> Vec<u8> {
     };
     let mut walk = Walk::new(rng, sheet, NEVER);
     walk.text();
-    let tokens = std::mem::take(&mut walk.out);
+    let tokens = walk.tokens();
     let mut out = spell(rng, &tokens);
     draw_out(rng, &mut out, length);
     out
@@ -155,7 +155,7 @@ pub fn landmarks() -> Vec<Case> {
         (LEAST_WORDS - 1, good.to_string(), small()),
         (0, good.to_string(), Vec::new()),
     ];
-    list.into_iter().map(|(words, text, sheet)| Case { id: 0, words, text: text.into_bytes(), sheet }).collect()
+    list.into_iter().map(|(words, text, sheet)| Case::new(0, words, text, sheet)).collect()
 }
 
 fn small() -> Vec<u8> {

@@ -7,6 +7,7 @@ pub mod durations;
 mod exhaustive;
 mod grammar;
 mod large;
+mod repeats;
 mod requests;
 mod rng;
 mod sheet;
@@ -21,7 +22,7 @@ pub use large::landmarks;
 pub use requests::requests;
 pub use rng::Rng;
 
-use cases::{Case, FORMER_LEAST_WORDS, LEAST_WORDS, MOST_BYTES, MOST_WORDS};
+use cases::{Case, Habit, Settings, FORMER_LEAST_WORDS, LEAST_WORDS, MOST_BYTES, MOST_WORDS};
 use grammar::{Walk, NEVER, OFTEN, SELDOM};
 use sheet::Sheet;
 use spell::{spell, Token};
@@ -29,7 +30,7 @@ use spell::{spell, Token};
 /// The longest text that it takes, in bytes.
 const LONGEST_TEXT: usize = 16_384;
 
-/// The case `index` of the sequence that `seed` gives.
+/// The case `index` of the sequence that `seed` gives: a default call, or an archive call, on one line or the other.
 pub fn case(seed: u64, index: u64) -> Case {
     let mut rng = Rng::new(seed, index);
     let mut sheet = sheet::good(&mut rng);
@@ -41,7 +42,9 @@ pub fn case(seed: u64, index: u64) -> Case {
     }
     text.truncate(MOST_BYTES);
     sheet.bytes.truncate(MOST_BYTES);
-    Case { id: index, words, text, sheet: sheet.bytes }
+    let habit = rng.pick(&[None, Some(Habit::Archive), Some(Habit::Rule), Some(Habit::Rule)]);
+    let settings = habit.map(|habit| Settings::plain(habit, &sheet.bytes));
+    Case { settings, ..Case::new(index, words, text, sheet.bytes) }
 }
 
 /// Several things wrong at once, for the order of the first four questions.
@@ -109,7 +112,7 @@ fn text(rng: &mut Rng, sheet: &Sheet) -> Vec<u8> {
 fn walk(rng: &mut Rng, sheet: &Sheet, slips: usize) -> Vec<Token> {
     let mut walk = Walk::new(rng, sheet, slips);
     walk.text();
-    walk.out
+    walk.tokens()
 }
 
 /// A few tokens of any kind, without any order; sometimes none. Mostly they stand where a trigger or a condition does.
@@ -125,7 +128,7 @@ fn soup(rng: &mut Rng) -> Vec<u8> {
 fn several_faults(rng: &mut Rng, sheet: &Sheet) -> Vec<u8> {
     let mut walk = Walk::new(rng, sheet, OFTEN);
     walk.short_text();
-    let mut tokens = walk.out;
+    let mut tokens = walk.tokens();
     if rng.once_in(2) {
         damage::tokens(rng, &mut tokens);
     }

@@ -1,18 +1,19 @@
 //! Fixed cases for the requests of document 02, to be stored behind the sample of document 01.
 
-use cases::{Case, FORMER_LEAST_WORDS, LEAST_WORDS, MOST_TOKENS, MOST_WORDS};
+use cases::{Case, Habit, Settings, FORMER_LEAST_WORDS, LEAST_WORDS, MOST_TOKENS, MOST_WORDS};
 
 /// The cases of every request that has landed, in the order of their landing.
 pub fn requests() -> Vec<Case> {
     let mut cases = durations();
     cases.extend(records());
+    cases.extend(repeats());
     cases
 }
 
 const SHEET: &[u8] = b"primary,0\n";
 
 fn case(words: usize, text: String) -> Case {
-    Case { id: 0, words, text: text.into_bytes(), sheet: SHEET.to_vec() }
+    Case::new(0, words, text, SHEET)
 }
 
 /// §2: long zeros, small digits behind them, and what stands beside them.
@@ -81,4 +82,69 @@ fn records() -> Vec<Case> {
         at(16_383, 0, "("), at(0, 16_383, "("), at(16_384, 0, ""), at(0, 16_384, ""),
     ].map(|text| case(LEAST_WORDS, text)));
     cases
+}
+
+/// A sheet with an input device's name on one adapter, on two, and twice on one.
+const INPUTS: &[u8] = b"primary,2\nadapter,2\nadapter,3\ninput,3,9,one\ninput,2,1,two\ninput,3,2,two\ninput,2,4,twice\n\
+input,2,5,twice\n";
+
+/// Arguments that repeat one, and some beside them.
+const REPEATS: &[&str] = &[
+    // Each of the five, with another value and with the same.
+    "dev=3, dev=5, inst=0", "dev=1, dev=1, inst=2", "dev=1, inst=2, inst=3", "group=1, group=2", "group=1, group=1, type=3",
+    "group=1, type=2, type=light", "type=light, group=1, type=light", "group=1, adapter=3, adapter=2",
+    "adapter=3, dev=\"two\", inst=1, adapter=3",
+    // Unnamed ones among them, up to the third.
+    "1, dev=3, inst=2", "dev=1, 3, inst=2", "dev=1, \"one\", inst=2", "inst=2, dev=\"one\", \"two\"", "1, 2, inst=3", "1, inst=3, 2",
+    "inst=3, 1, 2", "inst=3, 1, 7:05", "dev=1, inst=2, 3", "1, 2, 3", "1, 2, 3, dev=4", "1, 2, 3, type=1, type=1",
+    "1, 2, foo, inst=4, inst=5", "1, 2, dev=3, 4", "inst=1, 2, inst=3, 4, 5", "1, 2, dev=",
+    // A comma before `)`, and what is no key.
+    "1,", "inst=1,", "group=1,", "dev=1,", "1, inst=2,", "1, 2,", "dev=1,,inst=2", "1, inst=2,,", "dev=1, inst", "dev=1, dev 2",
+    "dev=1, dev==2", "dev=1, foo", "dev=1, foo=2", "foo=1, foo=2", "dev=1, =2",
+    // A wrong value behind the repeat.
+    "dev=1, dev=", "dev=1, dev=\"\"", "dev=1, \"\"", "inst=1, inst=99", "inst=1, inst=\"a\"", "type=1, type=foo", "type=1, type=32",
+    "group=1, group=32", "adapter=2, adapter=77", "adapter=3, adapter=256", "adapter=2, adapter=0", "inst=1, dev=1, inst=2, type=foo",
+    "type=1, type=foo, dev=1, inst=2", "dev=1, inst=2, dev=\"\"",
+    // And before it.
+    "dev=, dev=1", "inst=\"\", dev=1, dev=1", "inst=\"a\", inst=1", "dev=\"\", dev=1", "dev=\"\", inst=1, dev=\"\"", "inst=99, inst=1",
+    "group=32, group=1", "type=foo, type=1", "foo=1, dev=1, dev=1", "adapter=77, adapter=2", "adapter=0, dev=1, dev=2, inst=3",
+    // What the archive call asks behind `)`.
+    "dev=64, dev=63, inst=1", "dev=63, dev=64, inst=1", "64, 1, inst=1", "group=1, dev=1, dev=2", "dev=1, inst=2, group=1, group=1",
+    "inst=1, inst=2", "type=1, inst=2, type=1", "dev=1, dev=2", "1, dev=2", "dev=\"no\", inst=1, inst=2", "dev=1, inst=1, dev=\"no\"",
+    "dev=\"one\", inst=1, adapter=2, adapter=2", "dev=1, dev=\"one\", inst=1, adapter=2", "dev=\"two\", inst=1, inst=1",
+    "\"two\", 1, type=1, type=1", "dev=\"two\", inst=1, adapter=2, adapter=3", "dev=\"twice\", inst=1, inst=1",
+    "\"twice\", 1, adapter=2, adapter=2",
+];
+
+/// Whole texts: the end, several parentheses, other forms than events, and references, where nothing can repeat.
+const TEXTS_WITH_REPEATS: &[&str] = &[
+    "when input(dev=1,", "when input(dev=1, # \u{e9}", "when input(1, inst=2,\n\n ", "when input(1,2,", "when input(1,",
+    "when input(dev=1, dev", "when input(dev=1, dev=", "when input(dev=1, dev=2 @",
+    "when input(1, 2) is press when input(1, 2) is press",
+    "when input(dev=1, inst=2) is press if input(dev=1, inst=2) is occupied", "when input(group=1, group=2) becomes occupied",
+    "when input(group=1, type=2, type=2).light crosses above 5", "when input(1, 2, dev=3) becomes vacant when",
+    "when input(1, dev=3, inst=2) is foo", "when input(1, dev=3, inst=2) is press then",
+    "when input(1, dev=3, inst=2) is press when every 999ms", "when input(1, 2, type=3, type=3).position changes",
+    "when http trigger if input(1, 2, dev=3) is occupied",
+    "when http trigger if sun is up and input(dev=1, inst=2, inst=3).light below 5",
+    "when http trigger if var(\"v\") == input(1, 2, inst=3).light",
+    "when http trigger if lamp(1).level > input(\"one\", 2, adapter=3, adapter=3).position + 5",
+    "when lamp(1, adapter=2, adapter=2) turns on", "when input device(5, adapter=2, adapter=2) power cycled",
+    "when scene(5, adapter=2, adapter=2) recalled", "when input device(dev=5, dev=5) power cycled",
+];
+
+/// §11: repeats of every argument, and what stands beside them, each as the default call and as the archive call.
+fn repeats() -> Vec<Case> {
+    let long = "a".repeat(49);
+    let names = [
+        format!("dev=1, dev=\"{long}\""), format!("dev=1, \"{long}\""), format!("dev=\"{long}\", dev=1"), format!("1, 2, dev=\"{long}\""),
+        format!("dev=\"{long}\", inst=1, inst=1"),
+    ];
+    let arguments = REPEATS.iter().map(|arguments| arguments.to_string()).chain(names);
+    let events = arguments.map(|arguments| format!("when input({arguments}) is press"));
+    let texts = events.chain(TEXTS_WITH_REPEATS.iter().map(|text| text.to_string()));
+    let call = |habit: Habit, text: &str| {
+        Case { settings: Some(Settings::plain(habit, INPUTS)), ..Case::new(0, LEAST_WORDS, text, INPUTS) }
+    };
+    texts.flat_map(|text| [Habit::Rule, Habit::Archive].map(|habit| call(habit, &text))).collect()
 }

@@ -139,7 +139,8 @@ fn most_sheets_are_good_and_most_texts_short() {
 #[test]
 fn the_sequences_differ_and_hold_whole_forms() {
     for length in 0..=2 {
-        let mut seen: Vec<(Vec<u8>, Vec<u8>)> = exhaustive(length).map(|case| (case.text, case.sheet)).collect();
+        let mut seen: Vec<(cases::Habit, Vec<u8>, Vec<u8>)> =
+            exhaustive(length).map(|case| (case.habit(), case.text, case.sheet)).collect();
         assert_eq!(seen.len() as u64, exhaustive_count(length));
         seen.sort();
         seen.dedup();

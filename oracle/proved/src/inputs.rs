@@ -121,7 +121,7 @@ fn commented(rule: &str) -> String {
     format!("{comments:<room$}{rule}")
 }
 
-/// As many tokens as a text may have: an argument may be given again and again, and the last counts.
+/// As many tokens as a text may have: in the archive call an argument may be given again and again, and the last counts.
 fn repeated(argument: &str) -> String {
     let arguments = argument.repeat(252);
     format!("when http trigger when input({arguments}dev=\"Back door\", inst=2) is press\n")
@@ -164,7 +164,7 @@ impl Input {
     pub fn proved(&self) -> (String, usize) {
         let mut words = vec![UNTOUCHED; WORDS];
         let mut answer = [UNTOUCHED; ANSWER];
-        let number = crate::read(self.text.as_bytes(), self.sheet.as_bytes(), &mut words, &mut answer);
+        let number = crate::read_archive(self.text.as_bytes(), self.sheet.as_bytes(), &mut words, &mut answer);
         assert_eq!(number, answer[0], "{}", self.name);
         let said = match answer[..6] {
             [0, 0, 0, 0, triggers, conditions] => format!("accepted {triggers} {conditions}"),
@@ -177,7 +177,7 @@ impl Input {
     /// What the supplied Rust says, in the same words. The call that is timed must say it too.
     pub fn supplied(&self) -> String {
         let (text, sheet) = (self.text.as_bytes(), self.sheet.as_bytes());
-        let case = Case { id: 0, words: WORDS, text: text.to_vec(), sheet: sheet.to_vec() };
+        let case = Case::new(0, WORDS, text, sheet);
         let answer = supplied::answer(&case);
         let verdict = |line: &&str| line.starts_with("accepted") || line.starts_with("refused");
         let said = answer.lines().find(verdict).expect("the case is in the domain").to_string();

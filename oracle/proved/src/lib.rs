@@ -21,7 +21,7 @@ extern "C" {
         answer_length: usize,
     ) -> u32;
 
-    fn tergyosul_read(
+    fn tergyosul_read_archive(
         text: *const u8,
         text_length: usize,
         sheet: *const u8,
@@ -68,12 +68,13 @@ pub fn lex_into(text: &[u8], words: &mut [u32], answer: &mut [u32]) -> u32 {
     }
 }
 
-/// The whole call: reads a rule text with a name sheet. The layout of the answer is include/tergyosul.h's; with one of fewer
+/// The whole call of the archive loader, since the supplied Rust has its habit too: reads a rule text with a name sheet, and a
+/// repeated argument of `input(` replaces the earlier one. The layout of the answer is include/tergyosul.h's; with one of fewer
 /// than 108 words nothing is read or written.
-pub fn read(text: &[u8], sheet: &[u8], words: &mut [u32], answer: &mut [u32]) -> u32 {
+pub fn read_archive(text: &[u8], sheet: &[u8], words: &mut [u32], answer: &mut [u32]) -> u32 {
     // SAFETY: each pointer and length is a slice that is borrowed for the call, and the two mutable ones overlap nothing.
     unsafe {
-        tergyosul_read(
+        tergyosul_read_archive(
             text.as_ptr(),
             text.len(),
             sheet.as_ptr(),

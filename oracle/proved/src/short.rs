@@ -21,5 +21,5 @@ pub fn case(length: u32, index: u64) -> Case {
         text.extend_from_slice(PIECES[(left % PIECES.len() as u64) as usize]);
         left /= PIECES.len() as u64;
     }
-    Case { id: index, words: LEAST_WORDS, text, sheet: Vec::new() }
+    Case::new(index, LEAST_WORDS, text, [])
 }

@@ -7,7 +7,7 @@ use cases::{Case, LEAST_WORDS};
 use compare_cases::shrink::shrink;
 
 fn case(text: &[u8]) -> Case {
-    Case { id: 0, words: LEAST_WORDS, text: text.to_vec(), sheet: Vec::new() }
+    Case::new(0, LEAST_WORDS, text, [])
 }
 
 #[test]

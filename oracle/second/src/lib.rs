@@ -16,9 +16,9 @@ mod triggers;
 mod values;
 
 use buffer::Buffer;
-use cases::{Case, Lexing, LEAST_WORDS};
+use cases::{Case, Habit, Lexing, LEAST_WORDS};
 use model::Lists;
-use reader::{Read, Reader};
+use reader::{Read, Reader, Repeats};
 use refusal::{Place, Refusal};
 
 const MOST_TEXT: usize = 16_384;
@@ -39,8 +39,12 @@ pub fn answer(case: &Case) -> String {
 
 /// Document 01's domain of the comparison: "accepted sheets, texts past questions 1 to 4 and 19, no duration of 20 or
 /// more fractional digits, and no text on which the Rust reaches a left-out form"; less, by document 02 §2, "texts with a
-/// duration that the old first 17 refuses", whatever is answered now.
+/// duration that the old first 17 refuses", whatever is answered now; and by §11 "the Rust comparison runs on the archive
+/// call".
 pub fn in_domain(case: &Case) -> bool {
+    if case.habit() != Habit::Archive {
+        return false;
+    }
     let outcome = read(case);
     let asked_of_both = |refusal: &Refusal| !matches!(refusal.number, 1..=4 | 19 | 40);
     !outcome.formerly_17 && outcome.result.as_ref().err().is_none_or(asked_of_both)
@@ -80,8 +84,16 @@ fn read(case: &Case) -> Outcome<'_> {
     };
     let lexed = lexer::lex(text);
     buffer.write(&lexed.tokens);
-    let result = lexed.end.and_then(|end| Reader::new(text, lexed.tokens, end, sheet).sections());
+    let result = lexed.end.and_then(|end| Reader::new(text, lexed.tokens, end, sheet, repeats(case)).sections());
     Outcome { buffer, result, formerly_17: lexed.formerly_17 }
+}
+
+/// "By default a repeat is now turned away; the archive loader keeps a call with the old habit", document 02 §11.
+fn repeats(case: &Case) -> Repeats {
+    match case.habit() {
+        Habit::Archive => Repeats::Replace,
+        Habit::Rule | Habit::Shop => Repeats::Refused,
+    }
 }
 
 /// The questions 1 to 4, in this order.

@@ -11,18 +11,26 @@ pub type Read<T> = Result<T, Refusal>;
 const MOST_NAME: usize = 48;
 const MOST_VAR_TEXT: usize = 16;
 
-/// The parser: a list of tokens with the text they are from, where it stands in it, and the name sheet.
+/// What becomes of an input argument that sets one already set.
+#[derive(Debug, Clone, Copy, PartialEq, Eq)]
+pub enum Repeats {
+    Refused,
+    Replace,
+}
+
+/// The parser: a list of tokens with the text they are from, where it stands in it, the name sheet, and the call's habit.
 pub struct Reader<'a> {
     text: &'a str,
     tokens: Vec<Token>,
     next: usize,
     end: Place,
     pub sheet: Sheet<'a>,
+    pub repeats: Repeats,
 }
 
 impl<'a> Reader<'a> {
-    pub fn new(text: &'a str, tokens: Vec<Token>, end: Place, sheet: Sheet<'a>) -> Reader<'a> {
-        Reader { text, tokens, next: 0, end, sheet }
+    pub fn new(text: &'a str, tokens: Vec<Token>, end: Place, sheet: Sheet<'a>, repeats: Repeats) -> Reader<'a> {
+        Reader { text, tokens, next: 0, end, sheet, repeats }
     }
 
     pub fn peek(&self) -> Option<Token> {
@@ -52,10 +60,11 @@ impl<'a> Reader<'a> {
         self.peek().is_some_and(|token| token.kind == Kind::Word && self.bytes(token) == word.as_bytes())
     }
 
-    /// Whether a word and `=` stand here: a key.
-    pub fn at_key(&self) -> bool {
+    /// The word that stands here, if `=` is behind it: a key.
+    pub fn key(&self) -> Option<&'a [u8]> {
         let behind = self.tokens.get(self.next + 1);
-        self.at_kind(Kind::Word) && behind.is_some_and(|token| token.kind == Kind::Assign)
+        let assigned = behind.is_some_and(|token| token.kind == Kind::Assign);
+        self.peek().filter(|token| assigned && token.kind == Kind::Word).map(|token| self.bytes(token))
     }
 
     pub fn take_kind(&mut self, kind: Kind) -> bool {

@@ -2,7 +2,7 @@
 
 use crate::lexer::{Kind as TokenKind, Token};
 use crate::model::{Instance, Ref, Selector, Target};
-use crate::reader::{in_range, Read, Reader};
+use crate::reader::{in_range, Read, Reader, Repeats};
 use crate::refusal::{Place, Refusal};
 use crate::sheet::{Kind, Row};
 
@@ -10,6 +10,29 @@ const HIGHEST_ADAPTER: u32 = 255;
 /// The highest instance, instance group and instance type.
 const HIGHEST_OF_ARGS: u32 = 31;
 const MOST_UNNAMED: usize = 2;
+
+/// What an argument of ARGS sets.
+#[derive(Clone, Copy)]
+enum Argument {
+    Dev,
+    Inst,
+    Group,
+    Type,
+    Adapter,
+}
+
+impl Argument {
+    fn of(key: &[u8]) -> Option<Argument> {
+        match key {
+            b"dev" => Some(Argument::Dev),
+            b"inst" => Some(Argument::Inst),
+            b"group" => Some(Argument::Group),
+            b"type" => Some(Argument::Type),
+            b"adapter" => Some(Argument::Adapter),
+            _ => None,
+        }
+    }
+}
 
 /// The arguments of ARGS, each the last that was given. The dev and the group keep their tokens for later questions.
 #[derive(Default)]
@@ -20,6 +43,18 @@ struct Arguments {
     instance_type: Option<u32>,
     adapter: Option<u32>,
     unnamed: usize,
+}
+
+impl Arguments {
+    fn is_set(&self, argument: Argument) -> bool {
+        match argument {
+            Argument::Dev => self.dev.is_some(),
+            Argument::Inst => self.inst.is_some(),
+            Argument::Group => self.group.is_some(),
+            Argument::Type => self.instance_type.is_some(),
+            Argument::Adapter => self.adapter.is_some(),
+        }
+    }
 }
 
 impl<'a> Reader<'a> {
@@ -132,36 +167,40 @@ impl<'a> Reader<'a> {
         one_instance(selector, open)
     }
 
-    /// One argument; "a repeated argument replaces the earlier one".
+    /// One argument. 63: "an argument that sets one already set, named or not", at its first token or at the end, "before
+    /// its value is read but after 26"; in the archive call it replaces the earlier one.
     fn argument(&mut self, arguments: &mut Arguments) -> Read<()> {
-        if !self.at_key() {
-            return self.unnamed_argument(arguments);
+        let key = self.key();
+        let argument = match key {
+            Some(key) => Argument::of(key).ok_or(Refusal::new(21, self.place()))?,
+            None => self.unnamed(arguments)?,
+        };
+        if self.repeats == Repeats::Refused && arguments.is_set(argument) {
+            return self.refuse(63);
         }
-        let (key, place) = self.any_word()?;
-        self.expect(TokenKind::Assign)?;
-        match key {
-            b"dev" => arguments.dev = Some(self.name_or_id()?),
-            b"inst" => arguments.inst = Some(self.integer(HIGHEST_OF_ARGS)?),
-            b"group" => arguments.group = Some(self.instance_group()?),
-            b"type" => arguments.instance_type = Some(self.instance_type()?),
-            b"adapter" => arguments.adapter = Some(self.adapter()?),
-            _ => return Err(Refusal::new(21, place)),
+        if key.is_some() {
+            self.any_word()?;
+            self.expect(TokenKind::Assign)?;
+        }
+        match argument {
+            Argument::Dev => arguments.dev = Some(self.name_or_id()?),
+            Argument::Inst => arguments.inst = Some(self.integer(HIGHEST_OF_ARGS)?),
+            Argument::Group => arguments.group = Some(self.instance_group()?),
+            Argument::Type => arguments.instance_type = Some(self.instance_type()?),
+            Argument::Adapter => arguments.adapter = Some(self.adapter()?),
         }
         Ok(())
     }
 
-    /// "Unnamed ones are dev, then inst"; 26 is asked before the third one's token is judged.
-    fn unnamed_argument(&mut self, arguments: &mut Arguments) -> Read<()> {
-        if arguments.unnamed == MOST_UNNAMED {
-            return self.refuse(26);
-        }
-        if arguments.unnamed == 0 {
-            arguments.dev = Some(self.name_or_id()?);
-        } else {
-            arguments.inst = Some(self.integer(HIGHEST_OF_ARGS)?);
-        }
+    /// What is no key is an unnamed argument, whatever stands here. "Unnamed ones are dev, then inst, counted among
+    /// unnamed ones only"; 26 is asked before the third one's token is judged.
+    fn unnamed(&self, arguments: &mut Arguments) -> Read<Argument> {
         arguments.unnamed += 1;
-        Ok(())
+        match arguments.unnamed {
+            1 => Ok(Argument::Dev),
+            MOST_UNNAMED => Ok(Argument::Inst),
+            _ => self.refuse(26),
+        }
     }
 
     fn instance_group(&mut self) -> Read<Token> {

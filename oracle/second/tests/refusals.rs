@@ -7,7 +7,7 @@ use common::*;
 #[test]
 fn n01_to_04_and_their_order() {
     let text = |bytes: usize| vec![b' '; bytes];
-    let bad = Case { id: 1, words: 0, text: text(16_385), sheet: Vec::new() };
+    let bad = Case::new(1, 0, text(16_385), []);
     assert_eq!(verdict_of(&bad), "refused 1 0 0 0");
     let bad = Case { text: vec![0xFF; 16_384], ..bad };
     assert_eq!(verdict_of(&bad), "refused 2 0 0 0");

@@ -125,7 +125,7 @@ const OTHERS: &[&str] = &[
 ];
 
 fn case(text: &str) -> cases::Case {
-    cases::Case { id: 0, words: cases::LEAST_WORDS, text: text.into(), sheet: sheet().into() }
+    cases::Case::new(0, cases::LEAST_WORDS, text, sheet())
 }
 
 /// Every form as a text.

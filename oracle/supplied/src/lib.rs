@@ -52,6 +52,7 @@ pub(crate) enum Verdict {
 
 /// The text that the replay format orders for the case: its token records, then the refusal or the two lists.
 ///
+/// The settings of a call are not looked at: what the supplied Rust does with repeated arguments is the archive habit.
 /// A case on which the supplied Rust would overflow has the one line `outside the domain` instead.
 pub fn answer(case: &cases::Case) -> String {
     let (records, verdict) = judged(case);

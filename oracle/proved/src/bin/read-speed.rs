@@ -27,11 +27,11 @@ impl Lent {
 
 type Call = fn(&Input, &mut Lent);
 
-/// One call of the proved reader. It has a name of its own to be counted by.
+/// One archive call of the proved reader. It has a name of its own to be counted by.
 #[no_mangle]
 #[inline(never)]
 fn call_of_the_proved(input: &Input, lent: &mut Lent) {
-    black_box(proved::read(input.text.as_bytes(), input.sheet.as_bytes(), &mut lent.words, &mut lent.answer));
+    black_box(proved::read_archive(input.text.as_bytes(), input.sheet.as_bytes(), &mut lent.words, &mut lent.answer));
 }
 
 /// One whole call of the supplied Rust, with the sheet's tables made for it, and the freeing of what it gives.

@@ -11,7 +11,7 @@ pub const ALL: &str = "primary,2\nadapter,2\nadapter,3\nlamp,2,5,Lamp\ngroup,3,1
                        input,3,9,Input\nlamp,2,6,Twice\nlamp,2,7,Twice\ninput,2,1,Both\ninput,3,2,Both\n";
 
 pub fn case(text: &[u8], sheet: &[u8]) -> Case {
-    Case { id: 1, words: cases::LEAST_WORDS, text: text.to_vec(), sheet: sheet.to_vec() }
+    Case::new(1, cases::LEAST_WORDS, text, sheet)
 }
 
 /// The lines of an answer.

@@ -6,7 +6,7 @@ use cases::Case;
 pub const S: &str = "primary,0\nadapter,0\nadapter,1\nlamp,0,4,Aisle\nlamp,1,4,Aisle\nlamp,1,7,Till\n";
 
 pub fn case(text: &[u8], sheet: &[u8]) -> Case {
-    Case { id: 1, words: cases::LEAST_WORDS, text: text.to_vec(), sheet: sheet.to_vec() }
+    Case::new(1, cases::LEAST_WORDS, text, sheet)
 }
 
 /// The lines of the answer behind `case 1`: first the records, without `token`, then the rest from `buffer kept` on.

@@ -1,16 +1,6 @@
 use borrow.Author.Needs.{needs}
-use Rattle.reader.proofs.ReadLaws.{long-answer, long-buffer, small-answer, small-buffer, asked-answer, asked-buffer, promised}
 use Rattle.reader.proofs.read.read.Statement.{statement}
 use Rattle.reader.proofs.read.read.Tie as tie
 
 pub read-spec : {M : Type 1} → statement M
-read-spec =
-    tie.close
-    (tie.spec
-    (λ c κs. search needs)
-    (λ c. promised _ _ _ (search long-answer) (search long-buffer))
-    (λ c κs. search needs)
-    (λ c. promised _ _ _ (search small-answer) (search small-buffer))
-    (λ c κs. search needs)
-    (λ c. search needs)
-    (λ c. promised _ _ _ (search asked-answer) (search asked-buffer)))
+read-spec = tie.close (tie.spec (λ c κs. search needs) (λ c. search needs) (λ c. search needs))
