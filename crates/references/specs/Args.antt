@@ -1,4 +1,4 @@
--- ARGS: `(` arguments parted by commas `)` (document 01, "Grammar", and questions 21, 22, 25 to 30).
+-- ARGS: `(` arguments parted by commas `)` (document 01, "Grammar", and questions 21, 22, 25 to 30; document 02 §11, 63).
 use Prim.Native.Nat.{ℕ, zero, suc, _+_}
 use mathlib.Core.List.{List}
 use mathlib.Core.Bool.{Bool, true, false}

@@ -124,7 +124,7 @@ pub data Laid (s : List ℕ) : List Character → Lexing → Type 0 where
   -- only white space and comments are left
   end : {before : List Character} (gap : List Character) → Trailing (codes gap) → chars s 0 ≡ before ++ gap →
       Laid s before (ended (walked start (before ++ gap)))
-  -- a refusal stands at the first character c of what was refused; which number it has is lexFrom's to say
+  -- a refusal stands at some character c behind white space and comments; which one, and which number it has, is lexFrom's to say
   refusal : {before : List Character} {number : ℕ} (gap : List Character) (c : Character) (rest : List Character) → Trivia (codes gap) →
       chars s 0 ≡ before ++ (gap ++ (c ∷ rest)) → Lexical number →
       Laid s before (refused number (walked start (before ++ gap)))
