@@ -5,8 +5,10 @@
  * between calls, so that calls on different arrays may run at the same time.
  *
  * A slice is passed as a pointer and a length. What the proofs cannot see is the caller's part: each pointer is not null
- * and points to as many elements as the length says (a length of 0 still wants a pointer that is not null), the
- * elements were written before, and an array that is written is apart from all the others.
+ * and points to as many elements as the length says (a length of 0 still wants a pointer that is not null), the elements
+ * were written before, and an array that is written is apart from all the others. A party and an adapter are 0 to 255: a
+ * larger number becomes another one in a uint8_t, without a word from C, so whoever has them from outside tests them
+ * first.
  */
 #ifndef TERGYOSUL_H
 #define TERGYOSUL_H
@@ -173,12 +175,19 @@ enum tergyosul_reading {
 };
 
 /*
- * Reads a rule text with a name sheet. The result is 0, or the number of the refusal, or TERGYOSUL_NO_ROOM. The whole answer
- * goes to answer, and the records of the tokens go to words, as above; with refusals 1 to 4 these are left as they are.
- * An argument of `input(` that sets one already set is refused with 63, at its first token.
+ * Reads a rule text with a name sheet, for a party. The sheet's `party` rows say whose an adapter is; one without such a
+ * row is party 0's. The call sees the party's adapters and the rows on them, and nothing of another's: a name that only
+ * another has is not found, and another's adapter is not listed. What names no adapter is on primary, the call's own
+ * primary adapter, which stands in for the sheet's. It need not be listed; if it is not the party's the call is refused
+ * with 53, at 0:0.
+ *
+ * The result is 0, or the number of the refusal, or TERGYOSUL_NO_ROOM. The whole answer goes to answer, and the records
+ * of the tokens go to words, as above; with refusals 1 to 4 and 53 these are left as they are. An argument of `input(`
+ * that sets one already set is refused with 63, at its first token.
  */
 uint32_t tergyosul_read(const uint8_t *text, size_t text_length,
                         const uint8_t *sheet, size_t sheet_length,
+                        uint8_t party, uint8_t primary,
                         uint32_t *words, size_t words_length,
                         uint32_t *answer, size_t answer_length);
 
@@ -188,8 +197,16 @@ uint32_t tergyosul_read(const uint8_t *text, size_t text_length,
  */
 uint32_t tergyosul_read_archive(const uint8_t *text, size_t text_length,
                                 const uint8_t *sheet, size_t sheet_length,
+                                uint8_t party, uint8_t primary,
                                 uint32_t *words, size_t words_length,
                                 uint32_t *answer, size_t answer_length);
+
+/*
+ * The sheet's own primary adapter, which its first line names: 0 to 255, and 0 where it names none. A call that is to go
+ * by it passes it on as its primary. Only the first line is looked at: whether the sheet is well formed, and whether that
+ * adapter is the party's, the call says.
+ */
+uint32_t tergyosul_sheet_primary(const uint8_t *sheet, size_t sheet_length);
 
 /*
  * Lexes a text alone: questions 1, 2 and 4, then 10 to 19. The records of its tokens go to words, as above; with refusals 1,

@@ -1,8 +1,9 @@
 /*
  * Reads a rule with its name sheet and says what it has.
  *
- *   example RULE SHEET
+ *   example RULE SHEET [PARTY PRIMARY]
  *
+ * for a party with its own primary adapter, or else for party 0 with the sheet's.
  * The exit status is 0 if the rule is accepted, 1 if it is refused, 2 for wrong usage or a file that cannot be read.
  */
 #include <stdio.h>
@@ -53,6 +54,19 @@ static int load(const char *path, uint8_t *bytes, size_t *length)
         fprintf(stderr, "%s: more than %d bytes, which is no rule and no sheet\n", path, ROOM);
     }
     return fits;
+}
+
+/* A party or an adapter: 0 to 255 in decimal. The result is 0 if the word is no such number; it is not cut to one. */
+static int byte_of(const char *word, uint8_t *byte)
+{
+    unsigned value = 0;
+    size_t i;
+
+    for (i = 0; word[i] >= '0' && word[i] <= '9' && value <= 255; i++) {
+        value = 10 * value + (unsigned)(word[i] - '0');
+    }
+    *byte = (uint8_t)value;
+    return i > 0 && word[i] == '\0' && value <= 255;
 }
 
 /* One of two words, by its code. */
@@ -217,16 +231,21 @@ int main(int count, char **arguments)
 {
     size_t text_length, sheet_length;
     uint32_t number, i;
+    uint8_t party = 0, primary = 0;
 
-    if (count != 3) {
-        fprintf(stderr, "usage: example RULE SHEET\n");
+    if ((count != 3 && count != 5) ||
+        (count == 5 && (!byte_of(arguments[3], &party) || !byte_of(arguments[4], &primary)))) {
+        fprintf(stderr, "usage: example RULE SHEET [PARTY PRIMARY]\n");
         return 2;
     }
     if (!load(arguments[1], text, &text_length) || !load(arguments[2], sheet, &sheet_length)) {
         return 2;
     }
-    number = tergyosul_read(text, text_length, sheet, sheet_length, words, TERGYOSUL_TOKEN_WORDS, answer,
-                            TERGYOSUL_ANSWER_WORDS);
+    if (count == 3) {
+        primary = (uint8_t)tergyosul_sheet_primary(sheet, sheet_length);
+    }
+    number = tergyosul_read(text, text_length, sheet, sheet_length, party, primary, words, TERGYOSUL_TOKEN_WORDS,
+                            answer, TERGYOSUL_ANSWER_WORDS);
     if (number == TERGYOSUL_NO_ROOM) { /* not with an array of this length; answer was not written */
         fprintf(stderr, "there is no room for the answer\n");
         return 2;

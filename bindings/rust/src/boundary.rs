@@ -1,11 +1,11 @@
-//! The three calls of the C library, and all that is unsafe in this crate.
+//! The four calls of the C library, and all that is unsafe in this crate.
 //!
 //! `include/tergyosul.h` asks four things of a caller. Each holds for every call from here, because the pointers and lengths
 //! are those of slices that are borrowed while the call runs:
 //!
 //! - No pointer is null, not even with a length of 0: a slice's never is.
 //! - Each points to as many elements of its type as the length says. `usize` is C's `size_t`, `u8` and `u32` are its
-//!   `uint8_t` and `uint32_t`, and a slice's pointer is aligned.
+//!   `uint8_t` and `uint32_t`, and a slice's pointer is aligned. A party and an adapter are a `u8`, so neither is cut.
 //! - The elements were written before: those of a slice are initialised. The library writes whole words, so they stay so.
 //! - An array that is written is apart from all the others: `words` and `answer` are borrowed mutably, so neither overlaps
 //!   the other, the text or the sheet. The text and the sheet, which are only read, may be the same bytes.
@@ -13,12 +13,16 @@
 //! The library has no state, so it keeps no pointer after it returns. That it stays within the slices and returns from every
 //! call is proved. The declarations below are the header's.
 
+use crate::Party;
+
 extern "C" {
     fn tergyosul_read(
         text: *const u8,
         text_length: usize,
         sheet: *const u8,
         sheet_length: usize,
+        party: u8,
+        primary: u8,
         words: *mut u32,
         words_length: usize,
         answer: *mut u32,
@@ -30,11 +34,15 @@ extern "C" {
         text_length: usize,
         sheet: *const u8,
         sheet_length: usize,
+        party: u8,
+        primary: u8,
         words: *mut u32,
         words_length: usize,
         answer: *mut u32,
         answer_length: usize,
     ) -> u32;
+
+    fn tergyosul_sheet_primary(sheet: *const u8, sheet_length: usize) -> u32;
 
     fn tergyosul_lex(
         text: *const u8,
@@ -49,7 +57,7 @@ extern "C" {
 /// The result of a call whose answer is too short: nothing was read and nothing written.
 pub const NO_ROOM: u32 = u32::MAX;
 
-pub fn read(text: &[u8], sheet: &[u8], words: &mut [u32], answer: &mut [u32]) -> u32 {
+pub fn read(text: &[u8], sheet: &[u8], party: Party, words: &mut [u32], answer: &mut [u32]) -> u32 {
     // SAFETY: as above: four slices that are borrowed for the call, the two mutable ones apart from all others.
     unsafe {
         tergyosul_read(
@@ -57,6 +65,8 @@ pub fn read(text: &[u8], sheet: &[u8], words: &mut [u32], answer: &mut [u32]) ->
             text.len(),
             sheet.as_ptr(),
             sheet.len(),
+            party.number,
+            party.primary,
             words.as_mut_ptr(),
             words.len(),
             answer.as_mut_ptr(),
@@ -65,7 +75,7 @@ pub fn read(text: &[u8], sheet: &[u8], words: &mut [u32], answer: &mut [u32]) ->
     }
 }
 
-pub fn read_archive(text: &[u8], sheet: &[u8], words: &mut [u32], answer: &mut [u32]) -> u32 {
+pub fn read_archive(text: &[u8], sheet: &[u8], party: Party, words: &mut [u32], answer: &mut [u32]) -> u32 {
     // SAFETY: as above: four slices that are borrowed for the call, the two mutable ones apart from all others.
     unsafe {
         tergyosul_read_archive(
@@ -73,12 +83,19 @@ pub fn read_archive(text: &[u8], sheet: &[u8], words: &mut [u32], answer: &mut [
             text.len(),
             sheet.as_ptr(),
             sheet.len(),
+            party.number,
+            party.primary,
             words.as_mut_ptr(),
             words.len(),
             answer.as_mut_ptr(),
             answer.len(),
         )
     }
+}
+
+pub fn sheet_primary(sheet: &[u8]) -> u32 {
+    // SAFETY: as above: a slice that is borrowed for the call and only read.
+    unsafe { tergyosul_sheet_primary(sheet.as_ptr(), sheet.len()) }
 }
 
 pub fn lex(text: &[u8], words: &mut [u32], answer: &mut [u32]) -> u32 {

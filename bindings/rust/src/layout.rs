@@ -17,6 +17,11 @@ fn broken() -> ! {
     panic!("the answer does not follow its layout")
 }
 
+/// An adapter that stands alone.
+pub fn adapter(word: u32) -> u8 {
+    u8::try_from(word).unwrap_or_else(|_| broken())
+}
+
 /// The rule, or the refusal, that an answer has.
 pub fn rule(answer: &[u32; ANSWER_WORDS]) -> Result<Rule, Refusal> {
     let mut head = Words::of_row(answer, 0);

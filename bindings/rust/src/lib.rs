@@ -1,18 +1,20 @@
 //! Tergyosul, the rule reader of the lighting controllers, for Rust.
 //!
-//! [`read`] takes a rule text and a name sheet, both as bytes, and gives the rule's triggers and conditions or one numbered
-//! refusal with its place. The reading is done by the proved library, through its C ABI (`include/tergyosul.h`); this crate
-//! passes the slices and turns the answer's words into types, which have the names and shapes of the library's own.
-//! It needs no standard library, allocates nothing and keeps nothing between calls, so that calls may run at the same time.
+//! [`read`] takes a rule text and a name sheet, both as bytes, and whose call it is ([`Party`]). It gives the rule's
+//! triggers and conditions, or one numbered refusal with its place. The reading is done by the proved library, through its
+//! C ABI (`include/tergyosul.h`); this crate passes the slices and turns the answer's words into types, with a case for
+//! each kind and code of that header. It needs no standard library, allocates nothing and keeps nothing between calls, so
+//! that calls may run at the same time.
 //!
 //! ```
-//! use tergyosul::{Condition, Power, Ref, Sun, Trigger};
+//! use tergyosul::{Condition, Party, Power, Ref, Sun, Trigger};
 //!
 //! let text = b"when lamp(\"Till\") turns on when timer(\"Close\") fires if sun is down";
 //! let sheet = b"primary,0\nlamp,1,7,Till\n";
+//! let party = Party::of_sheet(sheet);
 //! let mut words = [0; tergyosul::TOKEN_WORDS];
 //!
-//! let rule = tergyosul::read(text, sheet, &mut words).expect("the rule is well formed");
+//! let rule = tergyosul::read(text, sheet, party, &mut words).expect("the rule is well formed");
 //! let till = Ref { adapter: 1, number: 7 };
 //! assert_eq!(rule.triggers()[0], Trigger::LampTurns(till, Power::On));
 //! assert_eq!(rule.conditions(), [Condition::SunIs(Sun::Down)]);
@@ -21,7 +23,7 @@
 //! let Trigger::TimerFires(name) = rule.triggers()[1] else { panic!("the second trigger is a timer's") };
 //! assert_eq!(name.of(text), Some(&b"Close"[..]));
 //!
-//! let refusal = tergyosul::read(b"when lamp(\"Tills\") turns on", sheet, &mut words).unwrap_err();
+//! let refusal = tergyosul::read(b"when lamp(\"Tills\") turns on", sheet, party, &mut words).unwrap_err();
 //! assert_eq!((refusal.number, refusal.line, refusal.column), (31, 1, 11));
 //! assert_eq!(refusal.to_string(), "1:11: no row of that kind has the name (refusal 31)");
 //! ```
@@ -35,12 +37,14 @@ extern crate std;
 #[allow(unsafe_code)]
 mod boundary;
 mod layout;
+mod party;
 mod refusal;
 mod rule;
 #[cfg(test)]
 mod tests;
 mod token;
 
+pub use party::{sheet_primary, Party};
 pub use refusal::Refusal;
 pub use rule::{
     Aggregate, Comparison, Condition, Crossing, Event, Hcl, InputRef, LightTarget, Name, Occupancy, Online, Operand,
@@ -55,18 +59,19 @@ pub const TOKEN_WORDS: usize = 1_024 * RECORD_WORDS;
 /// The length of an answer of the library's `tergyosul_lex`.
 const LEX_WORDS: usize = 4;
 
-/// Reads a rule text with a name sheet.
+/// Reads a rule text with a name sheet, for a party with its own primary adapter.
 ///
-/// The records of the tokens go to `words`, from which [`tokens`] takes them; with refusals 1 to 4 these are left as they are.
-/// What the words hold before plays no part. An argument of `input(` that sets one already set is refused with 63.
+/// The records of the tokens go to `words`, from which [`tokens`] takes them; with refusals 1 to 4 and 53 these are left as
+/// they are. What the words hold before plays no part. A primary adapter that is not the party's is refused with 53, and an
+/// argument of `input(` that sets one already set with 63.
 ///
 /// # Panics
 ///
 /// If the linked library gives an answer outside the layout of `include/tergyosul.h`. The proved library gives none, so
 /// that means that another one was linked.
-pub fn read(text: &[u8], sheet: &[u8], words: &mut [u32]) -> Result<Rule, Refusal> {
+pub fn read(text: &[u8], sheet: &[u8], party: Party, words: &mut [u32]) -> Result<Rule, Refusal> {
     let mut answer = [0; layout::ANSWER_WORDS];
-    let number = boundary::read(text, sheet, words, &mut answer);
+    let number = boundary::read(text, sheet, party, words, &mut answer);
     with_room(number)?;
     layout::rule(&answer)
 }
@@ -75,16 +80,17 @@ pub fn read(text: &[u8], sheet: &[u8], words: &mut [u32]) -> Result<Rule, Refusa
 /// Everything else is as with [`read`]: what that one does not refuse with 63 is answered alike.
 ///
 /// ```
-/// use tergyosul::{Event, Ref, Selector, Trigger};
+/// use tergyosul::{Event, Party, Ref, Selector, Trigger};
 ///
 /// let text = b"when input(dev=3, dev=5, inst=0) is press";
 /// let sheet = b"primary,0\n";
+/// let party = Party::of_sheet(sheet);
 /// let mut words = [0; tergyosul::TOKEN_WORDS];
 ///
-/// let refusal = tergyosul::read(text, sheet, &mut words).unwrap_err();
+/// let refusal = tergyosul::read(text, sheet, party, &mut words).unwrap_err();
 /// assert_eq!((refusal.number, refusal.line, refusal.column), (63, 1, 19));
 ///
-/// let rule = tergyosul::read_archive(text, sheet, &mut words)?;
+/// let rule = tergyosul::read_archive(text, sheet, party, &mut words)?;
 /// let five = Ref { adapter: 0, number: 5 };
 /// assert_eq!(rule.triggers(), [Trigger::InputEvent(Selector::Instance(five, 0), Event::Press)]);
 /// # Ok::<(), tergyosul::Refusal>(())
@@ -93,9 +99,9 @@ pub fn read(text: &[u8], sheet: &[u8], words: &mut [u32]) -> Result<Rule, Refusa
 /// # Panics
 ///
 /// As [`read`].
-pub fn read_archive(text: &[u8], sheet: &[u8], words: &mut [u32]) -> Result<Rule, Refusal> {
+pub fn read_archive(text: &[u8], sheet: &[u8], party: Party, words: &mut [u32]) -> Result<Rule, Refusal> {
     let mut answer = [0; layout::ANSWER_WORDS];
-    let number = boundary::read_archive(text, sheet, words, &mut answer);
+    let number = boundary::read_archive(text, sheet, party, words, &mut answer);
     with_room(number)?;
     layout::rule(&answer)
 }

@@ -6,11 +6,11 @@ use core::fmt;
 /// A refusal: its number, its place and a detail. `docs/MANUAL.md` has an example of each and says what to do.
 #[derive(Debug, Clone, Copy, PartialEq, Eq, Hash)]
 pub struct Refusal {
-    /// 1 to 4, 10 to 13, 15 to 41 or 63.
+    /// 1 to 4, 10 to 13, 15 to 41, 53 or 63.
     pub number: u32,
     /// From 1, or 0 where there is no place. For number 3 it is the sheet's line, for the others the text's.
     pub line: u32,
-    /// From 1, in characters; 0 for the numbers 1 to 3.
+    /// From 1, in characters; 0 for the numbers 1 to 3 and 53.
     pub column: u32,
     /// With 32 an adapter, with 33 and 34 a count of rows, else 0.
     pub detail: u32,
@@ -55,6 +55,7 @@ impl Refusal {
             39 => "there are more than four conditions",
             40 => "this form is left out",
             41 => "the text goes on after the rule",
+            53 => "the primary adapter is not the party's",
             63 => "an argument is given a second time",
             NO_ROOM => "there is no room for the answer",
             _ => "the number is not known",

@@ -1,4 +1,4 @@
-//! What a rule says: the library's own types, with its names and shapes.
+//! What a rule says, with a case for each kind and code of `include/tergyosul.h`.
 
 use core::fmt;
 

@@ -2,7 +2,7 @@
 
 use crate::rule::*;
 use crate::{boundary, layout, lex, read, read_archive, tokens, with_room};
-use crate::{Refusal, Token, LEX_WORDS, RECORD_WORDS, TOKEN_WORDS};
+use crate::{Party, Refusal, Token, LEX_WORDS, RECORD_WORDS, TOKEN_WORDS};
 use std::format;
 use std::string::{String, ToString};
 use std::vec::Vec;
@@ -10,6 +10,8 @@ use std::vec::Vec;
 /// The manual's sheet.
 const SHEET: &[u8] = b"primary,0\nadapter,0\nadapter,1\nlamp,0,2,Bakery\nlamp,0,3,Bakery\nlamp,0,4,Aisle\nlamp,1,4,Aisle\n\
 lamp,1,7,Till\ngroup,0,1,Sales floor\ndevice,0,9,Gateway\ninput,0,5,Door\n";
+/// Whose call each of them is; `tests/parties.rs` has others.
+const ZERO: Party = Party { number: 0, primary: 0 };
 const HEADER: &str = include_str!("../../../include/tergyosul.h");
 
 const TILL: Ref = Ref { adapter: 1, number: 7 };
@@ -27,7 +29,7 @@ fn name(start: u32, length: u32) -> Name {
 
 fn answer(text: &str) -> [u32; layout::ANSWER_WORDS] {
     let mut answer = [u32::MAX; layout::ANSWER_WORDS];
-    let number = boundary::read(text.as_bytes(), SHEET, &mut [0; TOKEN_WORDS], &mut answer);
+    let number = boundary::read(text.as_bytes(), SHEET, ZERO, &mut [0; TOKEN_WORDS], &mut answer);
     assert_eq!((number, answer[0]), (0, 0), "{text}");
     answer
 }
@@ -408,7 +410,7 @@ fn assert_values(text: &str, [code, a, b, c]: [u32; 4], of: impl Fn(u32) -> Read
 fn four_of_each_in_their_order() {
     let text = b"when http trigger when controller starts when at 0:01 when every 1s \
 if sun is up and sun is down and controller is active and device(9) is online";
-    let rule = read(text, SHEET, &mut [0; TOKEN_WORDS]).unwrap();
+    let rule = read(text, SHEET, ZERO, &mut [0; TOKEN_WORDS]).unwrap();
     let triggers = [Trigger::HttpTrigger, Trigger::ControllerStarts, Trigger::AtTime(1), Trigger::Every(1_000)];
     let conditions = [
         Condition::SunIs(Sun::Up),
@@ -418,14 +420,14 @@ if sun is up and sun is down and controller is active and device(9) is online";
     ];
     assert_eq!(rule.triggers(), triggers);
     assert_eq!(rule.conditions(), conditions);
-    let shown = format!("{:?}", read(b"when http trigger", SHEET, &mut [0; TOKEN_WORDS]).unwrap());
+    let shown = format!("{:?}", read(b"when http trigger", SHEET, ZERO, &mut [0; TOKEN_WORDS]).unwrap());
     assert_eq!(shown, "Rule { triggers: [HttpTrigger], conditions: [] }");
 }
 
 #[test]
 fn a_name_is_a_range_of_the_text() {
     let text = "when timer(\"Käse\") fires if var(\"mode\") == \"\"".as_bytes();
-    let rule = read(text, SHEET, &mut [0; TOKEN_WORDS]).unwrap();
+    let rule = read(text, SHEET, ZERO, &mut [0; TOKEN_WORDS]).unwrap();
     let [Trigger::TimerFires(timer)] = rule.triggers() else { panic!("a timer") };
     assert_eq!(timer.of(text), Some("Käse".as_bytes()));
     let [Condition::VarCompare(mode, Comparison::Eq, Operand::Text(empty))] = rule.conditions() else { panic!("a var") };
@@ -437,7 +439,7 @@ fn a_name_is_a_range_of_the_text() {
 
 #[test]
 fn empty_slices_and_short_words() {
-    let refused = |text: &[u8], sheet: &[u8], words: &mut [u32]| read(text, sheet, words).unwrap_err();
+    let refused = |text: &[u8], sheet: &[u8], words: &mut [u32]| read(text, sheet, ZERO, words).unwrap_err();
     let refusal = |number, line, column| Refusal { number, line, column, detail: 0 };
     assert_eq!(refused(b"", b"", &mut []), refusal(2, 0, 0));
     assert_eq!(refused(b"", b"", &mut [0; TOKEN_WORDS]), refusal(3, 1, 0));
@@ -452,10 +454,10 @@ fn empty_slices_and_short_words() {
 #[test]
 fn a_detail_comes_with_its_refusal() {
     let text = b"when lamp(\"Till\", adapter=0) turns on";
-    let refusal = read(text, SHEET, &mut [0; TOKEN_WORDS]).unwrap_err();
+    let refusal = read(text, SHEET, ZERO, &mut [0; TOKEN_WORDS]).unwrap_err();
     assert_eq!(refusal, Refusal { number: 32, line: 1, column: 11, detail: 1 });
     assert_eq!(refusal.to_string(), "1:11: the name stands on another adapter, adapter 1 (refusal 32)");
-    let refusal = read(b"when lamp(\"Bakery\") turns on", SHEET, &mut [0; TOKEN_WORDS]).unwrap_err();
+    let refusal = read(b"when lamp(\"Bakery\") turns on", SHEET, ZERO, &mut [0; TOKEN_WORDS]).unwrap_err();
     assert_eq!(refusal.to_string(), "1:11: several rows on one adapter have the name, 2 rows (refusal 33)");
 }
 
@@ -464,10 +466,10 @@ fn a_detail_comes_with_its_refusal() {
 fn a_repeat_is_refused_but_for_the_archive() {
     let text = b"when input(dev=3, dev=5, inst=0) is press";
     let [mut words, mut archive_words] = [[9; TOKEN_WORDS]; 2];
-    let refusal = read(text, SHEET, &mut words).unwrap_err();
+    let refusal = read(text, SHEET, ZERO, &mut words).unwrap_err();
     assert_eq!(refusal, Refusal { number: 63, line: 1, column: 19, detail: 0 });
     assert_eq!(refusal.to_string(), "1:19: an argument is given a second time (refusal 63)");
-    let rule = read_archive(text, SHEET, &mut archive_words).unwrap();
+    let rule = read_archive(text, SHEET, ZERO, &mut archive_words).unwrap();
     assert_eq!(rule.triggers(), [Trigger::InputEvent(Selector::Instance(DOOR, 0), Event::Press)]);
     assert_eq!(words, archive_words);
 }
@@ -480,8 +482,8 @@ fn without_a_repeat_the_calls_are_alike() {
     for text in refused.into_iter().chain(accepted) {
         let [mut words, mut archive_words] = [[9; TOKEN_WORDS]; 2];
         let [mut answer, mut archive_answer] = [[7; layout::ANSWER_WORDS + 1]; 2];
-        let number = boundary::read(text, SHEET, &mut words, &mut answer);
-        assert_eq!(boundary::read_archive(text, SHEET, &mut archive_words, &mut archive_answer), number);
+        let number = boundary::read(text, SHEET, ZERO, &mut words, &mut answer);
+        assert_eq!(boundary::read_archive(text, SHEET, ZERO, &mut archive_words, &mut archive_answer), number);
         assert_eq!((words, answer), (archive_words, archive_answer));
         assert_eq!(number == 0, accepted.contains(&text));
     }
@@ -493,10 +495,10 @@ fn no_room_for_the_answer() {
     let mut answer = [7; layout::ANSWER_WORDS - 1];
     let mut words = [9; TOKEN_WORDS];
     for (text, sheet) in [(&b"when http trigger"[..], SHEET), (b"when", SHEET), (b"when http trigger", b"")] {
-        assert_eq!(boundary::read(text, sheet, &mut words, &mut answer), boundary::NO_ROOM);
-        assert_eq!(boundary::read(text, sheet, &mut words, &mut []), boundary::NO_ROOM);
-        assert_eq!(boundary::read(text, sheet, &mut [], &mut answer), boundary::NO_ROOM);
-        assert_eq!(boundary::read_archive(text, sheet, &mut words, &mut answer), boundary::NO_ROOM);
+        assert_eq!(boundary::read(text, sheet, ZERO, &mut words, &mut answer), boundary::NO_ROOM);
+        assert_eq!(boundary::read(text, sheet, ZERO, &mut words, &mut []), boundary::NO_ROOM);
+        assert_eq!(boundary::read(text, sheet, ZERO, &mut [], &mut answer), boundary::NO_ROOM);
+        assert_eq!(boundary::read_archive(text, sheet, ZERO, &mut words, &mut answer), boundary::NO_ROOM);
     }
     for text in [&b"when http trigger"[..], b"when @"] {
         assert_eq!(boundary::lex(text, &mut words, &mut answer[..LEX_WORDS - 1]), boundary::NO_ROOM);
@@ -525,7 +527,7 @@ fn the_lengths_are_the_headers() {
 #[test]
 fn a_longer_answer_keeps_its_end() {
     let mut answer = [7; layout::ANSWER_WORDS + 5];
-    assert_eq!(boundary::read(b"when http trigger", SHEET, &mut [0; TOKEN_WORDS], &mut answer), 0);
+    assert_eq!(boundary::read(b"when http trigger", SHEET, ZERO, &mut [0; TOKEN_WORDS], &mut answer), 0);
     assert_eq!(answer[layout::ANSWER_WORDS..], [7; 5]);
 }
 
@@ -562,7 +564,7 @@ fn the_farthest_places() {
     let mut words = [9; TOKEN_WORDS];
     for (byte, token, end) in [(b' ', (1, 16_384), (1, 16_385)), (b'\n', (16_384, 1), (16_385, 1))] {
         let mut text = [byte; 16_384];
-        assert_eq!(read(&text, SHEET, &mut words).map_err(|r| (r.number, r.line, r.column)), Err((38, end.0, end.1)));
+        assert_eq!(read(&text, SHEET, ZERO, &mut words).map_err(|r| (r.number, r.line, r.column)), Err((38, end.0, end.1)));
         text[16_383] = b'(';
         assert_eq!(lex(&text, &mut words), Ok(1));
         let found = tokens(&words).next().expect("there is one");
@@ -583,18 +585,26 @@ fn lexing_refuses_what_is_not_utf8() {
 #[test]
 fn every_refusal_has_its_own_meaning() {
     let refusal = |number| Refusal { number, line: 2, column: 3, detail: 4 };
-    let known = |number| matches!(number, 1..=4 | 10..=13 | 15..=41 | 63);
+    let known = |number| matches!(number, 1..=4 | 10..=13 | 15..=41 | 53 | 63);
     let mut meanings: Vec<&str> = (0..100).filter(|&n| known(n)).map(|n| refusal(n).meaning()).collect();
-    assert_eq!(meanings.len(), 36);
+    assert_eq!(meanings.len(), 37);
     meanings.sort();
     meanings.dedup();
-    assert_eq!(meanings.len(), 36);
+    assert_eq!(meanings.len(), 37);
     let unknown = refusal(0).meaning();
     assert!((0..100).all(|n| known(n) != (refusal(n).meaning() == unknown)));
     assert_eq!(refusal(3).to_string(), "sheet line 2: the sheet is not well formed (refusal 3)");
     assert_eq!(Refusal { line: 0, ..refusal(1) }.to_string(), "the text has more than 16384 bytes (refusal 1)");
+    let others = Refusal { line: 0, column: 0, ..refusal(53) };
+    assert_eq!(others.to_string(), "the primary adapter is not the party's (refusal 53)");
     assert_eq!(refusal(20).to_string(), "2:3: something else belongs here (refusal 20)");
     assert_eq!(refusal(34).to_string(), "2:3: several adapters have the name, 4 rows (refusal 34)");
+}
+
+#[test]
+fn a_broken_adapter_is_seen() {
+    assert_eq!((layout::adapter(0), layout::adapter(255)), (0, 255));
+    assert!(std::panic::catch_unwind(|| layout::adapter(256)).is_err());
 }
 
 /// No word of an answer leads to anything but a value or the panic.

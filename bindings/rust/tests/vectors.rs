@@ -6,19 +6,27 @@ mod shown;
 use std::fmt::Write;
 use std::path::Path;
 use std::{fs, str};
+use tergyosul::Party;
 
 /// What every word holds before a call.
 const UNTOUCHED: u32 = u32::MAX;
 
 /// Either call of this crate.
-type Call = fn(&[u8], &[u8], &mut [u32]) -> Result<tergyosul::Rule, tergyosul::Refusal>;
+type Call = fn(&[u8], &[u8], Party, &mut [u32]) -> Result<tergyosul::Rule, tergyosul::Refusal>;
 
 struct Case<'a> {
     id: &'a str,
-    read: Call,
+    call: Call,
     words: usize,
     text: &'a [u8],
     sheet: &'a [u8],
+    party: Party,
+}
+
+impl Case<'_> {
+    fn read(&self, words: &mut [u32]) -> Result<tergyosul::Rule, tergyosul::Refusal> {
+        (self.call)(self.text, self.sheet, self.party, words)
+    }
 }
 
 fn stored(name: &str) -> Vec<u8> {
@@ -42,24 +50,30 @@ fn call(habit: &str) -> Call {
     }
 }
 
-/// Party, primary and topics are read and not used yet.
+/// A `case` is party 0's, with the sheet's own primary. Topics are read and not used yet.
 fn cases(mut input: &[u8]) -> Vec<Case<'_>> {
     let mut cases = Vec::new();
     while !input.is_empty() {
         let end = input.iter().position(|&b| b == b'\n').expect("LF behind a header");
         let header: Vec<&str> = str::from_utf8(&input[..end]).expect("a header").split(' ').collect();
-        let (id, habit, words, text, sheet, topics) = match header[..] {
+        let (id, habit, words, text, sheet, settings) = match header[..] {
             ["case", id, words, text, sheet] => (id, "archive", words, text, sheet, None),
-            ["call", id, habit, words, _, _, text, sheet, topics] => (id, habit, words, text, sheet, Some(topics)),
+            ["call", id, habit, words, party, primary, text, sheet, topics] => {
+                (id, habit, words, text, sheet, Some((party, primary, topics)))
+            }
             _ => panic!("{header:?}"),
         };
         input = &input[end + 1..];
         let text = body(&mut input, text);
         let sheet = body(&mut input, sheet);
-        if let Some(topics) = topics {
-            body(&mut input, topics);
-        }
-        cases.push(Case { id, read: call(habit), words: words.parse().expect("a length"), text, sheet });
+        let party = match settings {
+            None => Party::of_sheet(sheet),
+            Some((party, primary, topics)) => {
+                body(&mut input, topics);
+                Party { number: party.parse().expect("a party"), primary: primary.parse().expect("an adapter") }
+            }
+        };
+        cases.push(Case { id, call: call(habit), words: words.parse().expect("a length"), text, sheet, party });
     }
     cases
 }
@@ -72,7 +86,7 @@ fn written(words: &[u32]) -> impl Iterator<Item = tergyosul::Token> + '_ {
 /// The answer to a case, in the replay format.
 fn answer(case: &Case) -> String {
     let mut words = vec![UNTOUCHED; case.words];
-    let read = (case.read)(case.text, case.sheet, &mut words);
+    let read = case.read(&mut words);
     let mut out = format!("case {}\n", case.id);
     let tokens: Vec<_> = written(&words).collect();
     tokens.iter().for_each(|token| out += &shown::token(token));
@@ -102,24 +116,24 @@ fn every_stored_answer_is_given() {
     let input = stored("stdin");
     let output = String::from_utf8(stored("stdout")).expect("the answers are UTF-8");
     let (cases, answers) = (cases(&input), answers(&output));
-    assert!(cases.len() >= 669);
+    assert!(cases.len() >= 863);
     assert_eq!(cases.len(), answers.len());
     for (case, expected) in cases.iter().zip(&answers) {
         assert_eq!(answer(case), *expected, "case {}", case.id);
     }
 }
 
-/// Lexing alone gives the same records, and the same refusal if it is one of lexing.
+/// Lexing alone gives the same records, and the same refusal if it is one of lexing. It knows no sheet, so no 3 and no 53.
 #[test]
 fn lexing_agrees() {
     let input = stored("stdin");
     for case in cases(&input) {
         let mut words = vec![UNTOUCHED; case.words];
-        let read = (case.read)(case.text, case.sheet, &mut words);
+        let read = case.read(&mut words);
         let mut lexed_words = vec![UNTOUCHED; case.words];
         let lexed = tergyosul::lex(case.text, &mut lexed_words);
         match read {
-            Err(refusal) if refusal.number == 3 => continue,
+            Err(refusal) if matches!(refusal.number, 3 | 53) => continue,
             Err(refusal) if refusal.number < 20 => assert_eq!(lexed, Err(refusal), "case {}", case.id),
             _ => assert_eq!(lexed, Ok(written(&words).count()), "case {}", case.id),
         }

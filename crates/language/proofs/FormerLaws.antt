@@ -20,37 +20,44 @@ use Rattle.tokens.specs.Ended.{recordWords}
 use Rattle.tokens.specs.Placed.{recordAt}
 use Rattle.tokens.specs.declared.record.Record.{Record}
 use Rattle.tokens.proofs.FormerLaws.{formerLeastWords, former-room, formerWords, formerCapacity, formerRecordAt, same-records, same-count}
-use Rattle.sheet.specs.Sheet.{sheetCheck}
-use Rattle.sheet.specs.View.{View}
-use Rattle.sheet.specs.declared.Habit.{Habit}
-use Rattle.sheet.specs.declared.rows.Sheet.{Sheet}
+use Rattle.sheet.specs.Sheet.{Sheet, well-formed, bad-line, sheetCheck}
+use Rattle.sheet.specs.View.{View, seen, ownPrimary}
+use Rattle.sheet.specs.declared.Call.{Call}
 use Rattle.model.specs.Lists.{refusedWith}
 use Rattle.model.specs.declared.Name.{Name}
 use Rattle.model.specs.declared.Answer.{Answer}
 use Rattle.language.specs.Range.{rangeOf}
 use Rattle.language.specs.Section.{Lists, ruleAt}
-use Rattle.language.specs.Read.{parsed, ruleOf, lexedFrom, byText, bySheet, seen, readOf}
+use Rattle.language.specs.Read.{parsed, ruleOf, lexedFrom, byPrimary, byText, bySheet, readOf}
 
 -- ---- buffers of different lengths
 
-module _ (habit : Habit) (text sheet words other : List ℕ) where
-  same-text : (c : Checked) → byText text (seen habit sheet) words c .answer ≡ byText text (seen habit sheet) other c .answer
+module _ (call : Call) (text sheet words other : List ℕ) where
+  abbrev own : Bool
+  own = ownPrimary call sheet
+
+  same-own : (b : Bool) → byPrimary text (seen call sheet) words b .answer ≡ byPrimary text (seen call sheet) other b .answer
+  unfolding byPrimary
+  same-own true = refl
+  same-own false = refl
+
+  same-text : (c : Checked) → byText text (seen call sheet) words own c .answer ≡ byText text (seen call sheet) other own c .answer
   unfolding byText
-  same-text WellFormed = refl
+  same-text WellFormed = same-own own
   same-text (IllFormed line column) = refl
 
-  same-sheet : (x : Sheet) → bySheet text (seen habit sheet) words x .answer ≡ bySheet text (seen habit sheet) other x .answer
+  same-sheet : (x : Sheet) → bySheet text (seen call sheet) words own x .answer ≡ bySheet text (seen call sheet) other own x .answer
   unfolding bySheet
-  same-sheet Sheet.WellFormed = same-text (checkOf text)
-  same-sheet (Sheet.BadLine n) = refl
+  same-sheet well-formed = same-text (checkOf text)
+  same-sheet (bad-line n) = refl
 
   same-asked : (long : Bool) →
-      pick long (record { answer = refusedWith 1 0 0 0; buffer = words }) (bySheet text (seen habit sheet) words (sheetCheck sheet)) .answer ≡
-      pick long (record { answer = refusedWith 1 0 0 0; buffer = other }) (bySheet text (seen habit sheet) other (sheetCheck sheet)) .answer
+      pick long (record { answer = refusedWith 1 0 0 0; buffer = words }) (bySheet text (seen call sheet) words own (sheetCheck sheet)) .answer ≡
+      pick long (record { answer = refusedWith 1 0 0 0; buffer = other }) (bySheet text (seen call sheet) other own (sheetCheck sheet)) .answer
   same-asked true = refl
   same-asked false = same-sheet (sheetCheck sheet)
 
-  pub same-answer : leastWords ≤ length words → leastWords ≤ length other → readOf habit text sheet words .answer ≡ readOf habit text sheet other .answer
+  pub same-answer : leastWords ≤ length words → leastWords ≤ length other → readOf call text sheet words .answer ≡ readOf call text sheet other .answer
   unfolding readOf
   same-answer room space =
       rw (le-ltb (length words) leastWords room, le-ltb (length other) leastWords space) (same-asked (ltb mostBytes (length text)))
@@ -73,18 +80,22 @@ formerLexedFrom text view whole (ended p) = parsed whole (formerRuleOf text (for
 formerLexedFrom text view whole (refused number p) = refusedWith number (p .line) (p .column) 0
 formerLexedFrom text view whole (token r l) = formerLexedFrom text view whole l
 
-unfoldable pub formerByText : List ℕ → View → Checked → Answer
-formerByText text view WellFormed = formerLexedFrom text view (lexText text) (lexText text)
-formerByText text view (IllFormed line column) = refusedWith 4 line column 0
+unfoldable pub formerByPrimary : List ℕ → View → Bool → Answer
+formerByPrimary text view true = formerLexedFrom text view (lexText text) (lexText text)
+formerByPrimary text view false = refusedWith 53 0 0 0
 
-unfoldable pub formerBySheet : List ℕ → View → Sheet → Answer
-formerBySheet text view Sheet.WellFormed = formerByText text view (checkOf text)
-formerBySheet text view (Sheet.BadLine n) = refusedWith 3 n 0 0
+unfoldable pub formerByText : List ℕ → View → Bool → Checked → Answer
+formerByText text view own WellFormed = formerByPrimary text view own
+formerByText text view own (IllFormed line column) = refusedWith 4 line column 0
 
-unfoldable pub formerAnswer : Habit → List ℕ → List ℕ → ℕ → Answer
-formerAnswer habit text sheet size =
+unfoldable pub formerBySheet : List ℕ → View → Bool → Sheet → Answer
+formerBySheet text view own well-formed = formerByText text view own (checkOf text)
+formerBySheet text view own (bad-line n) = refusedWith 3 n 0 0
+
+unfoldable pub formerAnswer : Call → List ℕ → List ℕ → ℕ → Answer
+formerAnswer call text sheet size =
     pick (ltb mostBytes (length text)) (refusedWith 1 0 0 0)
-    (pick (ltb size formerLeastWords) (refusedWith 2 0 0 0) (formerBySheet text (seen habit sheet) (sheetCheck sheet)))
+    (pick (ltb size formerLeastWords) (refusedWith 2 0 0 0) (formerBySheet text (seen call sheet) (ownPrimary call sheet) (sheetCheck sheet)))
 
 -- ---- it answered the same
 
@@ -105,25 +116,30 @@ module _ (text : List ℕ) (view : View) (words : List ℕ) (short : length text
   former-lexed (refused number p) = refl
   former-lexed (token r l) = former-lexed l
 
-  former-text : (c : Checked) → byText text view words c .answer ≡ formerByText text view c
+  former-own : (own : Bool) → byPrimary text view words own .answer ≡ formerByPrimary text view own
+  unfolding byPrimary formerByPrimary
+  former-own true = former-lexed (lexText text)
+  former-own false = refl
+
+  former-text : (own : Bool) (c : Checked) → byText text view words own c .answer ≡ formerByText text view own c
   unfolding byText formerByText
-  former-text WellFormed = former-lexed (lexText text)
-  former-text (IllFormed line column) = refl
+  former-text own WellFormed = former-own own
+  former-text own (IllFormed line column) = refl
 
-  former-sheet : (x : Sheet) → bySheet text view words x .answer ≡ formerBySheet text view x
+  former-sheet : (own : Bool) (x : Sheet) → bySheet text view words own x .answer ≡ formerBySheet text view own x
   unfolding bySheet formerBySheet
-  former-sheet Sheet.WellFormed = former-text (checkOf text)
-  former-sheet (Sheet.BadLine n) = refl
+  former-sheet own well-formed = former-text own (checkOf text)
+  former-sheet own (bad-line n) = refl
 
-former-asked : (habit : Habit) (text sheet words : List ℕ) (long : Bool) → (long ≡ false → length text ≤ mostBytes) →
-    pick long (record { answer = refusedWith 1 0 0 0; buffer = words }) (bySheet text (seen habit sheet) words (sheetCheck sheet)) .answer ≡
-    pick long (refusedWith 1 0 0 0) (formerBySheet text (seen habit sheet) (sheetCheck sheet))
-former-asked habit text sheet words true short = refl
-former-asked habit text sheet words false short = former-sheet text (seen habit sheet) words (short refl) (sheetCheck sheet)
+former-asked : (call : Call) (text sheet words : List ℕ) (long : Bool) → (long ≡ false → length text ≤ mostBytes) →
+    pick long (record { answer = refusedWith 1 0 0 0; buffer = words }) (bySheet text (seen call sheet) words (ownPrimary call sheet) (sheetCheck sheet)) .answer ≡
+    pick long (refusedWith 1 0 0 0) (formerBySheet text (seen call sheet) (ownPrimary call sheet) (sheetCheck sheet))
+former-asked call text sheet words true short = refl
+former-asked call text sheet words false short = former-sheet text (seen call sheet) words (short refl) (ownPrimary call sheet) (sheetCheck sheet)
 
-pub as-before : (habit : Habit) (text sheet words : List ℕ) → formerLeastWords ≤ length words →
-    readOf habit text sheet words .answer ≡ formerAnswer habit text sheet (length words)
+pub as-before : (call : Call) (text sheet words : List ℕ) → formerLeastWords ≤ length words →
+    readOf call text sheet words .answer ≡ formerAnswer call text sheet (length words)
 unfolding readOf formerAnswer
-as-before habit text sheet words room =
+as-before call text sheet words room =
     rw (le-ltb (length words) leastWords (former-room room), le-ltb (length words) formerLeastWords room)
-    (former-asked habit text sheet words (ltb mostBytes (length text)) (ltb-false mostBytes (length text)))
+    (former-asked call text sheet words (ltb mostBytes (length text)) (ltb-false mostBytes (length text)))

@@ -15,11 +15,9 @@ use Rattle.tokens.specs.Cursor.{Tok, tokens}
 use Rattle.tokens.specs.Record.{capacity}
 use Rattle.tokens.specs.Lex.{Lexing, ended, refused, token, lexText, writtenFrom, mostBytes, leastWords}
 use Rattle.tokens.specs.Ended.{recordWords}
-use Rattle.sheet.specs.Sheet.{sheetCheck}
-use Rattle.sheet.specs.View.{View, mayRepeat, settingsOf, viewOf}
-use Rattle.sheet.specs.declared.Habit.the-variants.{Rule, Archive}
+use Rattle.sheet.specs.Sheet.{Sheet, well-formed, bad-line, sheetCheck}
+use Rattle.sheet.specs.View.{View, mayRepeat, seen, ownPrimary}
 use Rattle.sheet.specs.declared.resolve.Scope.{Scope}
-use Rattle.sheet.specs.declared.rows.Sheet.{Sheet}
 use Rattle.references.specs.Refs.{scopeOrPrimary}
 use Rattle.references.proofs.HabitLaws.{Alike, same, repeat, allowing, alike-scope, alike-references}
 use Rattle.model.specs.Lists.{refusedWith}
@@ -33,7 +31,7 @@ use Rattle.language.specs.Expr.{lampReading, groupReading, inputReading,
 use Rattle.language.specs.Trigger.{sceneClosed, sceneTrigger, deviceTrigger, groupTrigger, hclTrigger, lampTrigger, inputDeviceTrigger, inputTrigger, triggerBy, triggerAt}
 use Rattle.language.specs.Condition.{deviceCondition, groupCondition, hclCondition, lampCompared, lampPoint, lampState, lampCondition, lightThan, inputState, inputCondition, operandAt, varCompared, varCondition, conditionBy, conditionAt}
 use Rattle.language.specs.Section.{Lists, repeated, whenSection, ifSection, ruleAt}
-use Rattle.language.specs.Read.{parsed, ruleOf, lexedFrom, byText, bySheet, Outcome, seen, readOf}
+use Rattle.language.specs.Read.{parsed, ruleOf, lexedFrom, byPrimary, byText, bySheet, Outcome, readOf, ruleCall, archiveCall}
 
 -- a form's definitions that take what is seen join the `unfolding` line
 module _ (t : ℕ → Tok) (view : View) (range : ℕ → Name) (fuel : ℕ) where
@@ -81,18 +79,24 @@ lexed-alike text view whole (ended p) h =
 lexed-alike text view whole (refused number p) h = refl
 lexed-alike text view whole (token r l) h = lexed-alike text view whole l h
 
-text-alike : (text : List ℕ) (view : View) (words : List ℕ) (c : Checked) → (byText text view words c .answer .number ≡ 63 → ⊥) →
-    byText text view words c ≡ byText text (allowing view) words c
-unfolding byText
-text-alike text view words WellFormed h =
+own-alike : (text : List ℕ) (view : View) (words : List ℕ) (own : Bool) → (byPrimary text view words own .answer .number ≡ 63 → ⊥) →
+    byPrimary text view words own ≡ byPrimary text (allowing view) words own
+unfolding byPrimary
+own-alike text view words true h =
     ap (λ (a : Answer). record { answer = a; buffer = writtenFrom 0 words (lexText text) }) (lexed-alike text view (lexText text) (lexText text) h)
-text-alike text view words (IllFormed line column) h = refl
+own-alike text view words false h = refl
 
-sheet-alike : (text : List ℕ) (view : View) (words : List ℕ) (x : Sheet) → (bySheet text view words x .answer .number ≡ 63 → ⊥) →
-    bySheet text view words x ≡ bySheet text (allowing view) words x
+text-alike : (text : List ℕ) (view : View) (words : List ℕ) (own : Bool) (c : Checked) → (byText text view words own c .answer .number ≡ 63 → ⊥) →
+    byText text view words own c ≡ byText text (allowing view) words own c
+unfolding byText
+text-alike text view words own WellFormed h = own-alike text view words own h
+text-alike text view words own (IllFormed line column) h = refl
+
+sheet-alike : (text : List ℕ) (view : View) (words : List ℕ) (own : Bool) (x : Sheet) → (bySheet text view words own x .answer .number ≡ 63 → ⊥) →
+    bySheet text view words own x ≡ bySheet text (allowing view) words own x
 unfolding bySheet
-sheet-alike text view words Sheet.WellFormed h = text-alike text view words (checkOf text) h
-sheet-alike text view words (Sheet.BadLine n) h = refl
+sheet-alike text view words own well-formed h = text-alike text view words own (checkOf text) h
+sheet-alike text view words own (bad-line n) h = refl
 
 -- a question that is put before, and answered by o
 asked-alike : (b : Bool) (o x y : Outcome) → ((x .answer .number ≡ 63 → ⊥) → x ≡ y) → (pick b o x .answer .number ≡ 63 → ⊥) →
@@ -101,9 +105,10 @@ asked-alike true o x y f h = refl
 asked-alike false o x y f h = f h
 
 -- an answer of the default call other than 63 is the archive call's, list for list and place for place, and so are the words at exit
-pub same-but-63 : (text sheet words : List ℕ) → (readOf Rule text sheet words .answer .number ≡ 63 → ⊥) →
-    readOf Rule text sheet words ≡ readOf Archive text sheet words
-unfolding readOf seen viewOf settingsOf mayRepeat
-same-but-63 text sheet words =
+pub same-but-63 : (party primary : ℕ) (text sheet words : List ℕ) → (readOf (ruleCall party primary) text sheet words .answer .number ≡ 63 → ⊥) →
+    readOf (ruleCall party primary) text sheet words ≡ readOf (archiveCall party primary) text sheet words
+unfolding readOf seen ownPrimary mayRepeat
+same-but-63 party primary text sheet words =
+    let call = ruleCall party primary in
     asked-alike (ltb mostBytes (length text)) _ _ _
-    (asked-alike (ltb (length words) leastWords) _ _ _ (sheet-alike text (seen Rule sheet) words (sheetCheck sheet)))
+    (asked-alike (ltb (length words) leastWords) _ _ _ (sheet-alike text (seen call sheet) words (ownPrimary call sheet) (sheetCheck sheet)))

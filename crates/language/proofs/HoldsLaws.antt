@@ -1,13 +1,12 @@
 -- What the lent words hold after the whole call, word by word, whatever it answers (Rattle.tokens.specs.Buffer).
 use Prim.Native.Nat.{ℕ, _≤_}
-use native.Mathlib.Omega.{arith}
 use mathlib.Core.Path.{_≡_, refl}
 use mathlib.Core.Bool.{Bool, true, false}
 use mathlib.Core.List.{List}
 use lib.ListN.{length}
 use lib.Dec.{ltb}
-use borrow.Author.Tests.{ltb-false, le-leb, lt-leb}
-use Rattle.text.specs.Choice.{pick, within}
+use borrow.Author.Tests.{ltb-false}
+use Rattle.text.specs.Choice.{pick}
 use Rattle.text.specs.Utf8.{Character}
 use Rattle.text.specs.Place.{checkOf}
 use Rattle.text.specs.declared.place.Checked.{Checked}
@@ -18,31 +17,29 @@ use Rattle.tokens.specs.Record.{capacity}
 use Rattle.tokens.specs.Lex.{Lexing, lexText, mostBytes, leastWords}
 use Rattle.tokens.specs.Ended.{recordWords}
 use Rattle.tokens.specs.Layout.{Laid, end, refusal, next}
-use Rattle.tokens.specs.Buffer.{Holds, frontOf}
+use Rattle.tokens.specs.Buffer.{Holds, isAskedFirst, frontOf}
 use Rattle.tokens.proofs.LayoutLaws.{laid}
 use Rattle.tokens.proofs.HoldsLaws.{lexical-late, records-held, asked-held}
-use Rattle.sheet.specs.Sheet.{sheetCheck}
-use Rattle.sheet.specs.View.{View}
-use Rattle.sheet.specs.declared.Habit.{Habit}
-use Rattle.sheet.specs.declared.rows.Sheet.{Sheet}
+use Rattle.sheet.specs.Sheet.{Sheet, well-formed, bad-line, sheetCheck}
+use Rattle.sheet.specs.View.{View, seen, ownPrimary}
+use Rattle.sheet.specs.declared.Call.{Call}
 use Rattle.model.specs.Lists.{acceptedWith, refusedWith}
 use Rattle.model.specs.declared.Answer.{Answer}
-use Rattle.references.proofs.NumberLaws.{Refuses, refusal-least}
+use Rattle.references.proofs.NumberLaws.{Refuses, refusal-late}
 use Rattle.language.specs.Range.{rangeOf}
 use Rattle.language.specs.Section.{Lists}
-use Rattle.language.specs.Read.{parsed, ruleOf, lexedFrom, byText, bySheet, Outcome, seen, readOf}
+use Rattle.language.specs.Read.{parsed, ruleOf, lexedFrom, byPrimary, byText, bySheet, Outcome, readOf}
 use Rattle.language.proofs.RefusalLaws.{rule-refuses}
 
--- neither the parser nor the lexer answers with a number from 1 to 4
-parsed-late : (l : Lexing) (m : Res Lists) → Refuses m → within 1 4 (parsed l m .number) ≡ false
+-- neither the parser nor the lexer answers with the number of a question that is asked first
+parsed-late : (l : Lexing) (m : Res Lists) → Refuses m → isAskedFirst (parsed l m .number) ≡ false
 unfolding parsed acceptedWith refusedWith Refuses
 parsed-late l (ok lists j) h = refl
 parsed-late l (no r) h =
-    let least = refusal-least (r .number) h in
-    rw (le-leb 1 (r .number) (omega arith), lt-leb (r .number) 4 (omega arith))
+    refusal-late (r .number) h
 
 lexed-late : {text : List ℕ} {before : List Character} (view : View) (whole : Lexing) {l : Lexing} → Laid text before l →
-    within 1 4 (lexedFrom text view whole l .number) ≡ false
+    isAskedFirst (lexedFrom text view whole l .number) ≡ false
 unfolding lexedFrom refusedWith ruleOf
 lexed-late {text} view whole (end gap t h) =
     let words = recordWords whole in
@@ -50,34 +47,39 @@ lexed-late {text} view whole (end gap t h) =
 lexed-late view whole (refusal gap c rest t h n) = lexical-late n
 lexed-late view whole (next gap u rest t s h k) = lexed-late view whole k
 
-module _ (habit : Habit) (text sheet words : List ℕ) where
+module _ (call : Call) (text sheet words : List ℕ) where
   abbrev Held : Outcome → Type 0
   Held o = Holds (frontOf (o .answer .number) text) words (o .buffer)
 
-  text-held : leastWords ≤ length words → (c : Checked) → Held (byText text (seen habit sheet) words c)
-  unfolding byText refusedWith frontOf
-  text-held room WellFormed = rw (lexed-late (seen habit sheet) (lexText text) (laid text)) (records-held text words room)
-  text-held room (IllFormed line column) = asked-held 4 text words refl
+  own-held : leastWords ≤ length words → (own : Bool) → Held (byPrimary text (seen call sheet) words own)
+  unfolding byPrimary refusedWith frontOf
+  own-held room true = rw (lexed-late (seen call sheet) (lexText text) (laid text)) (records-held text words room)
+  own-held room false = asked-held 53 text words refl
 
-  sheet-held : leastWords ≤ length words → (x : Sheet) → Held (bySheet text (seen habit sheet) words x)
+  text-held : leastWords ≤ length words → (own : Bool) (c : Checked) → Held (byText text (seen call sheet) words own c)
+  unfolding byText refusedWith
+  text-held room own WellFormed = own-held room own
+  text-held room own (IllFormed line column) = asked-held 4 text words refl
+
+  sheet-held : leastWords ≤ length words → (own : Bool) (x : Sheet) → Held (bySheet text (seen call sheet) words own x)
   unfolding bySheet refusedWith
-  sheet-held room Sheet.WellFormed = text-held room (checkOf text)
-  sheet-held room (Sheet.BadLine n) = asked-held 3 text words refl
+  sheet-held room own well-formed = text-held room own (checkOf text)
+  sheet-held room own (bad-line n) = asked-held 3 text words refl
 
   asked-first : (t u : Bool) → (u ≡ false → leastWords ≤ length words) →
       Held
       (pick t (record { answer = refusedWith 1 0 0 0; buffer = words })
-      (pick u (record { answer = refusedWith 2 0 0 0; buffer = words }) (bySheet text (seen habit sheet) words (sheetCheck sheet))))
+      (pick u (record { answer = refusedWith 2 0 0 0; buffer = words }) (bySheet text (seen call sheet) words (ownPrimary call sheet) (sheetCheck sheet))))
   unfolding refusedWith
   asked-first true u h = asked-held 1 text words refl
   asked-first false true h = asked-held 2 text words refl
-  asked-first false false h = sheet-held (h refl) (sheetCheck sheet)
+  asked-first false false h = sheet-held (h refl) (ownPrimary call sheet) (sheetCheck sheet)
 
-  read-held : Held (readOf habit text sheet words)
+  read-held : Held (readOf call text sheet words)
   unfolding readOf
   read-held = asked-first (ltb mostBytes (length text)) (ltb (length words) leastWords) (ltb-false (length words) leastWords)
 
 -- of what a call that answers x left in the words
-pub read-holds : (habit : Habit) (text sheet words : List ℕ) {x : Answer} {exit : List ℕ} → x ≡ readOf habit text sheet words .answer →
-    exit ≡ readOf habit text sheet words .buffer → Holds (frontOf (x .number) text) words exit
-read-holds habit text sheet words e f = rw (e, f) (read-held habit text sheet words)
+pub read-holds : (call : Call) (text sheet words : List ℕ) {x : Answer} {exit : List ℕ} → x ≡ readOf call text sheet words .answer →
+    exit ≡ readOf call text sheet words .buffer → Holds (frontOf (x .number) text) words exit
+read-holds call text sheet words e f = rw (e, f) (read-held call text sheet words)

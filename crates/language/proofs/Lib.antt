@@ -12,5 +12,6 @@ pub mod FuelLaws
 pub mod HabitLaws
 pub mod Theorem
 pub mod HoldsLaws
+pub mod IsolationLaws
 pub mod FormerLaws
 pub mod Pairs

@@ -3,8 +3,9 @@ use Prim.Native.Nat.{ℕ, _≤_}
 use mathlib.Core.List.{List, [], _∷_}
 use Rattle.tokens.specs.Cursor.{Tok}
 use Rattle.model.specs.Ranges.{Each, In-range, Event-in-range, Trigger-in-range, Reading-in-range, Value-in-range, Operand-in-range, Condition-in-range}
-use Rattle.sheet.specs.View.{View}
-use Rattle.sheet.specs.declared.Habit.{Habit}
+use Rattle.sheet.specs.View.{View, seen}
+use Rattle.model.specs.Limits.{lastAdapter}
+use Rattle.sheet.specs.declared.Call.{Call}
 use Rattle.sheet.proofs.RangeLaws.{View-in-range, view-in}
 use Rattle.references.proofs.RangeLaws.{up-to-in, clause-in, on-adapter-in, lamp-in, group-in, device-in, input-device-in, target-in, args-in, one-instance-in}
 use Rattle.model.specs.declared.Name.{Name}
@@ -14,7 +15,6 @@ use Rattle.model.specs.declared.Value.{Value}
 use Rattle.model.specs.declared.Operand.{Operand}
 use Rattle.model.specs.declared.Trigger.{Trigger}
 use Rattle.model.specs.declared.Condition.{Condition}
-use Rattle.language.specs.Read.{seen}
 use Rattle.language.specs.grammar.Expr.{Reading-of, Value-of}
 use Rattle.language.specs.grammar.Trigger.{Event-of, Trigger-of}
 use Rattle.language.specs.grammar.Condition.{Operand-of, Condition-of}
@@ -115,8 +115,7 @@ module _ {t : ℕ → Tok} {view : View} {range : ℕ → Name} (sees : View-in-
   all-in : {xs : List Trigger} {ys : List Condition} → Reading-with t view range xs ys → In-range xs ys
   all-in (Reading-with.reading h g e) = record { triggers = when-in h; conditions = if-in g }
 
--- with every sheet: neither a number in a rule nor a row of the sheet brings in a reference that is out of range
-pub ranges : {t : ℕ → Tok} (habit : Habit) (sheet : List ℕ) {range : ℕ → Name} {xs : List Trigger} {ys : List Condition} →
-    Reading-with t (seen habit sheet) range xs ys → In-range xs ys
-unfolding seen
-ranges habit sheet h = all-in (view-in habit sheet) h
+-- with every sheet: neither a number in a rule nor a row of the sheet nor the call's primary adapter brings in a reference that is out of range
+pub ranges : {t : ℕ → Tok} (call : Call) (sheet : List ℕ) → call .primary ≤ lastAdapter → {range : ℕ → Name} {xs : List Trigger} {ys : List Condition} →
+    Reading-with t (seen call sheet) range xs ys → In-range xs ys
+ranges call sheet primary h = all-in (view-in call sheet primary) h

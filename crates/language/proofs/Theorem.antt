@@ -10,7 +10,7 @@ use borrow.Author.Tests.{le-ltb, ltb-false}
 use Rattle.text.specs.Choice.{pick}
 use Rattle.text.specs.Rfc3629.{Utf8-octets}
 use Rattle.text.specs.Utf8.{Character}
-use Rattle.text.specs.Place.{start, checkOf, Judged, well-formed}
+use Rattle.text.specs.Place.{start, checkOf, Judged, well-formed as judged-well}
 use Rattle.text.proofs.PlaceRules.{judged, judged-one}
 use Rattle.text.specs.declared.place.Checked.{Checked}
 use Rattle.text.specs.declared.place.Checked.the-variants.{WellFormed, IllFormed}
@@ -22,10 +22,10 @@ use Rattle.tokens.specs.Ended.{Ended, at-end, behind, recordWords}
 use Rattle.tokens.specs.Layout.{Laid, end, refusal, next}
 use Rattle.tokens.proofs.LayoutLaws.{laid}
 use Rattle.tokens.proofs.DurationLaws.{durations}
-use Rattle.sheet.specs.Sheet.{sheetCheck}
-use Rattle.sheet.specs.View.{View}
-use Rattle.sheet.specs.declared.Habit.{Habit}
-use Rattle.sheet.specs.declared.rows.Sheet.{Sheet}
+use Rattle.sheet.specs.Sheet.{Sheet, well-formed, bad-line, sheetCheck}
+use Rattle.sheet.specs.View.{View, seen, ownPrimary}
+use Rattle.sheet.specs.declared.Call.{Call}
+use Rattle.model.specs.Limits.{lastAdapter}
 use Rattle.model.specs.Lists.{acceptedWith, refusedWith}
 use Rattle.references.proofs.ArgComplete.{no-token}
 use Rattle.tokens.proofs.Okay.{Okay}
@@ -34,7 +34,7 @@ use Rattle.language.proofs.RefusalLaws.{rule-refuses}
 use Rattle.language.proofs.RangeLaws.{ranges}
 use Rattle.language.specs.Section.{Lists}
 use Rattle.language.specs.Range.{rangeOf}
-use Rattle.language.specs.Read.{parsed, ruleOf, lexedFrom, byText, bySheet, Outcome, seen, readOf}
+use Rattle.language.specs.Read.{parsed, ruleOf, lexedFrom, byPrimary, byText, bySheet, Outcome, readOf}
 use Rattle.language.specs.Demand.{Gives, Has-reading, Accepts, Exact}
 use Rattle.language.specs.grammar.Text.{Reading-with}
 use Rattle.model.specs.declared.Trigger.{Trigger}
@@ -83,7 +83,7 @@ lexed-complete text view whole (behind e) = lexed-complete text view whole e
 
 -- a text whose bytes are characters passes question 4
 passes : {text characters : List ℕ} → Utf8-octets text characters → checkOf text ≡ WellFormed
-passes {text} h = judged-one (judged text) (well-formed h)
+passes {text} h = judged-one (judged text) (judged-well h)
 
 -- past the records there is no token
 past : (text words : List ℕ) → End (tokens text words) (capacity words)
@@ -106,46 +106,55 @@ unfolding lexText
 few text h = most-tokens mostTokens text start h
 
 -- Accepted with number 0: the questions from the last to the first.
-module _ (habit : Habit) (text sheet words : List ℕ) where
+module _ (call : Call) (in-range : call .primary ≤ lastAdapter) (text sheet words : List ℕ) where
   abbrev Sound : Outcome → Type 0
-  Sound o = o .answer .number ≡ 0 → Accepts habit text sheet (length words) (o .answer)
+  Sound o = o .answer .number ≡ 0 → Accepts call text sheet (length words) (o .answer)
 
-  text-sound : length text ≤ mostBytes → leastWords ≤ length words → sheetCheck sheet ≡ Sheet.WellFormed → (c : Checked) → Judged text c →
-      Sound (byText text (seen habit sheet) words c)
-  unfolding byText refusedWith ruleOf
-  text-sound short room sheet-passes (IllFormed line column) j e = absurd (omega arith)
-  text-sound short room sheet-passes WellFormed (well-formed octets) e =
+  own-sound : length text ≤ mostBytes → leastWords ≤ length words → sheetCheck sheet ≡ well-formed → {characters : List ℕ} →
+      Utf8-octets text characters → (own : Bool) → ownPrimary call sheet ≡ own → Sound (byPrimary text (seen call sheet) words own)
+  unfolding byPrimary refusedWith ruleOf
+  own-sound short room sheet-passes octets false owns e = absurd (omega arith)
+  own-sound short room sheet-passes octets true owns e =
       let whole = lexText text in
       let records = recordWords whole in
-      let p = lexed-sound text (seen habit sheet) whole whole (laid text) e in
+      let p = lexed-sound text (seen call sheet) whole whole (laid text) e in
       let t = tokens text records in
-      let refuses = rule-refuses t (seen habit sheet) (rangeOf records) (capacity records) in
-      let sound = rule-sound t (seen habit sheet) (rangeOf records) (capacity records) in
-      let read = parsed-sound text records (seen habit sheet) whole (ruleOf text records (seen habit sheet)) refuses sound (p .answered) in
+      let refuses = rule-refuses t (seen call sheet) (rangeOf records) (capacity records) in
+      let sound = rule-sound t (seen call sheet) (rangeOf records) (capacity records) in
+      let read = parsed-sound text records (seen call sheet) whole (ruleOf text records (seen call sheet)) refuses sound (p .answered) in
       record {
         triggers = read .triggers;
         conditions = read .conditions;
-        lists = lexed-complete text (seen habit sheet) whole (p .finished) ∙ read .lists;
+        lists = lexed-complete text (seen call sheet) whole (p .finished) ∙ read .lists;
         reads =
             record {
               room = room;
-              well-formed = sheet-passes;
+              sheet-passes = sheet-passes;
+              own = owns;
               lexing = whole;
               count = p .count;
               gives = gives short octets (p .finished);
               few = few text (p .finished);
               reading = read .reads;
             };
-        ranges = ranges habit sheet (read .reads);
+        ranges = ranges call sheet in-range (read .reads);
       }
 
-  sheet-sound : length text ≤ mostBytes → leastWords ≤ length words → (x : Sheet) → sheetCheck sheet ≡ x → Sound (bySheet text (seen habit sheet) words x)
+  text-sound : length text ≤ mostBytes → leastWords ≤ length words → sheetCheck sheet ≡ well-formed → (c : Checked) → Judged text c →
+      Sound (byText text (seen call sheet) words (ownPrimary call sheet) c)
+  unfolding byText refusedWith
+  text-sound short room sheet-passes (IllFormed line column) j e = absurd (omega arith)
+  text-sound short room sheet-passes WellFormed (judged-well octets) e =
+      own-sound short room sheet-passes octets (ownPrimary call sheet) refl e
+
+  sheet-sound : length text ≤ mostBytes → leastWords ≤ length words → (x : Sheet) → sheetCheck sheet ≡ x →
+      Sound (bySheet text (seen call sheet) words (ownPrimary call sheet) x)
   unfolding bySheet refusedWith
-  sheet-sound short room (Sheet.BadLine n) p e = absurd (omega arith)
-  sheet-sound short room Sheet.WellFormed p e = text-sound short room p (checkOf text) (judged text) e
+  sheet-sound short room (bad-line n) p e = absurd (omega arith)
+  sheet-sound short room well-formed p e = text-sound short room p (checkOf text) (judged text) e
 
   room-sound : length text ≤ mostBytes → (b : Bool) → ltb (length words) leastWords ≡ b →
-      Sound (pick b (record { answer = refusedWith 2 0 0 0; buffer = words }) (bySheet text (seen habit sheet) words (sheetCheck sheet)))
+      Sound (pick b (record { answer = refusedWith 2 0 0 0; buffer = words }) (bySheet text (seen call sheet) words (ownPrimary call sheet) (sheetCheck sheet)))
   unfolding refusedWith
   room-sound short true p e = absurd (omega arith)
   room-sound short false p e = sheet-sound short (ltb-false _ _ p) (sheetCheck sheet) refl e
@@ -153,31 +162,32 @@ module _ (habit : Habit) (text sheet words : List ℕ) where
   short-sound : (b : Bool) → ltb mostBytes (length text) ≡ b →
       Sound
       (pick b (record { answer = refusedWith 1 0 0 0; buffer = words })
-      (pick (ltb (length words) leastWords) (record { answer = refusedWith 2 0 0 0; buffer = words }) (bySheet text (seen habit sheet) words (sheetCheck sheet))))
+      (pick (ltb (length words) leastWords) (record { answer = refusedWith 2 0 0 0; buffer = words }) (bySheet text (seen call sheet) words (ownPrimary call sheet) (sheetCheck sheet))))
   unfolding refusedWith
   short-sound true p e = absurd (omega arith)
   short-sound false p e = room-sound (ltb-false _ _ p) (ltb (length words) leastWords) refl e
 
-  sound : Sound (readOf habit text sheet words)
+  sound : Sound (readOf call text sheet words)
   unfolding readOf
   sound e = short-sound (ltb mostBytes (length text)) refl e
 
-  complete : (xs : List Trigger) (ys : List Condition) → Has-reading habit text sheet (length words) xs ys →
-      readOf habit text sheet words .answer ≡ acceptedWith xs ys
-  unfolding readOf bySheet byText ruleOf parsed
-  complete xs ys h =
-      let l = h .lexing in
-      let records = recordWords l in
-      let rule = rule-complete (tokens text records) (seen habit sheet) (rangeOf records) (capacity records) (past text records) (h .reading) in
-      rw (
-        le-ltb mostBytes (length text) (h .gives .short),
-        le-ltb (length words) leastWords (h .room),
-        h .well-formed,
-        passes (h .gives .octets),
-        given (h .gives) (h .few),
-        lexed-complete text (seen habit sheet) l (h .gives .finished),
-        rule .1,
-      )
+complete : (call : Call) (text sheet words : List ℕ) (xs : List Trigger) (ys : List Condition) → Has-reading call text sheet (length words) xs ys →
+    readOf call text sheet words .answer ≡ acceptedWith xs ys
+unfolding readOf bySheet byText byPrimary ruleOf parsed
+complete call text sheet words xs ys h =
+    let l = h .lexing in
+    let records = recordWords l in
+    let rule = rule-complete (tokens text records) (seen call sheet) (rangeOf records) (capacity records) (past text records) (h .reading) in
+    rw (
+      le-ltb mostBytes (length text) (h .gives .short),
+      le-ltb (length words) leastWords (h .room),
+      h .sheet-passes,
+      h .own,
+      passes (h .gives .octets),
+      given (h .gives) (h .few),
+      lexed-complete text (seen call sheet) l (h .gives .finished),
+      rule .1,
+    )
 
 -- two readings of the same tokens with the same view are equal
 pub one-reading-only : (text words : List ℕ) (view : View) {xs us : List Trigger} {ys vs : List Condition} →
@@ -186,18 +196,18 @@ pub one-reading-only : (text words : List ℕ) (view : View) {xs us : List Trigg
 one-reading-only text words view h g = one-reading (tokens text words) view (rangeOf words) (capacity words) (past text words) h g
 
 -- a reading of a text is one of the tokens that the call lexes
-as-lexed : {habit : Habit} {text sheet : List ℕ} {size : ℕ} {xs : List Trigger} {ys : List Condition} → Has-reading habit text sheet size xs ys →
-    Reading-with (tokens text (recordWords (lexText text))) (seen habit sheet) (rangeOf (recordWords (lexText text))) xs ys
-as-lexed {habit} {text} {sheet} {xs = xs} {ys = ys} h =
-    subst (λ (l : Lexing). Reading-with (tokens text (recordWords l)) (seen habit sheet) (rangeOf (recordWords l)) xs ys)
+as-lexed : {call : Call} {text sheet : List ℕ} {size : ℕ} {xs : List Trigger} {ys : List Condition} → Has-reading call text sheet size xs ys →
+    Reading-with (tokens text (recordWords (lexText text))) (seen call sheet) (rangeOf (recordWords (lexText text))) xs ys
+as-lexed {call} {text} {sheet} {xs = xs} {ys = ys} h =
+    subst (λ (l : Lexing). Reading-with (tokens text (recordWords l)) (seen call sheet) (rangeOf (recordWords l)) xs ys)
     (sym (given (h .gives) (h .few))) (h .reading)
 
--- the third demand: for either habit, and every text, sheet and buffer
-pub exact : (habit : Habit) (text sheet words : List ℕ) → Exact habit text sheet (length words) (readOf habit text sheet words .answer)
-exact habit text sheet words =
+-- the third demand: for every call, text, sheet and buffer. A call's primary adapter is a byte.
+pub exact : (call : Call) → call .primary ≤ lastAdapter → (text sheet words : List ℕ) → Exact call text sheet (length words) (readOf call text sheet words .answer)
+exact call in-range text sheet words =
     record {
-      sound = sound habit text sheet words;
-      complete = complete habit text sheet words;
-      one = λ xs us ys vs h g. one-reading-only text (recordWords (lexText text)) (seen habit sheet) (as-lexed h) (as-lexed g);
-      durations = λ e. durations text (sound habit text sheet words e .reads .gives .short);
+      sound = sound call in-range text sheet words;
+      complete = complete call text sheet words;
+      one = λ xs us ys vs h g. one-reading-only text (recordWords (lexText text)) (seen call sheet) (as-lexed h) (as-lexed g);
+      durations = λ e. durations text (sound call in-range text sheet words e .reads .gives .short);
     }

@@ -8,4 +8,5 @@ pub mod Condition
 pub mod Section
 pub mod Read
 pub mod Demand
+pub mod Isolation
 pub mod grammar

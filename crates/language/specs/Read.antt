@@ -1,7 +1,8 @@
--- The whole call: its answer and every word of the buffer at exit, as one function of its habit with repeated arguments (document 02), text, sheet
--- and buffer (document 01, "Questions put to a call, in this order").
+-- The whole call: its answer and every word of the buffer at exit, as one function of what the call names (its habit, party and primary adapter), its
+-- text, sheet and buffer (document 01, "Questions put to a call, in this order").
 use Prim.Native.Nat.{ℕ}
 use mathlib.Core.List.{List}
+use mathlib.Core.Bool.{Bool, true, false}
 use lib.ListN.{length}
 use lib.Dec.{ltb}
 use Rattle.text.specs.Choice.{pick}
@@ -13,10 +14,10 @@ use Rattle.tokens.specs.Record.{capacity}
 use Rattle.tokens.specs.Cursor.{tokens}
 use Rattle.tokens.specs.Lex.{Lexing, ended, refused, token, lexText, writtenFrom, mostBytes, leastWords}
 use Rattle.tokens.specs.Ended.{recordWords, tokenLine, tokenColumn}
-use Rattle.sheet.specs.Sheet.{sheetCheck}
-use Rattle.sheet.specs.View.{View, viewOf, settingsOf}
-use Rattle.sheet.specs.declared.Habit.{Habit}
-use Rattle.sheet.specs.declared.rows.Sheet.{Sheet}
+use Rattle.sheet.specs.Sheet.{Sheet, well-formed, bad-line, sheetCheck}
+use Rattle.sheet.specs.View.{View, seen, ownPrimary}
+use Rattle.sheet.specs.declared.Call.{Call}
+use Rattle.sheet.specs.declared.Habit.the-variants.{Rule, Archive}
 use Rattle.model.specs.Lists.{acceptedWith, refusedWith}
 use Rattle.model.specs.declared.Answer.{Answer}
 use Rattle.language.specs.Range.{rangeOf}
@@ -41,24 +42,32 @@ pub record Outcome : Type 0 where
   pub answer : Answer
   pub buffer : List ℕ
 
--- "Text well-formed UTF-8 (RFC 3629)? 4"; then the records are written
-unfoldable pub byText : List ℕ → View → List ℕ → Checked → Outcome
-byText text view words WellFormed =
+-- document 02, §6: "It refuses a primary that is not the party's with 53, at 0:0, after question 4"; then the records are written
+unfoldable pub byPrimary : List ℕ → View → List ℕ → Bool → Outcome
+byPrimary text view words true =
     record { answer = lexedFrom text view (lexText text) (lexText text); buffer = writtenFrom 0 words (lexText text) }
-byText text view words (IllFormed line column) = record { answer = refusedWith 4 line column 0; buffer = words }
+byPrimary text view words false = record { answer = refusedWith 53 0 0 0; buffer = words }
+
+-- "Text well-formed UTF-8 (RFC 3629)? 4"
+unfoldable pub byText : List ℕ → View → List ℕ → Bool → Checked → Outcome
+byText text view words own WellFormed = byPrimary text view words own
+byText text view words own (IllFormed line column) = record { answer = refusedWith 4 line column 0; buffer = words }
 
 -- "Name sheet well formed? 3, at its first bad line, column 0"
-unfoldable pub bySheet : List ℕ → View → List ℕ → Sheet → Outcome
-bySheet text view words Sheet.WellFormed = byText text view words (checkOf text)
-bySheet text view words (Sheet.BadLine n) = record { answer = refusedWith 3 n 0 0; buffer = words }
-
--- what a call sees: its habit is its own, its other settings are those of the sheet
-unfoldable pub seen : Habit → List ℕ → View
-seen habit sheet = viewOf (settingsOf habit sheet) sheet
+unfoldable pub bySheet : List ℕ → View → List ℕ → Bool → Sheet → Outcome
+bySheet text view words own well-formed = byText text view words own (checkOf text)
+bySheet text view words own (bad-line n) = record { answer = refusedWith 3 n 0 0; buffer = words }
 
 -- "Text at most 16,384 bytes? 1." and, by document 02, §5, "the buffer at least 5,120 (question 2)"
-unfoldable pub readOf : Habit → List ℕ → List ℕ → List ℕ → Outcome
-readOf habit text sheet words =
+unfoldable pub readOf : Call → List ℕ → List ℕ → List ℕ → Outcome
+readOf call text sheet words =
     pick (ltb mostBytes (length text)) (record { answer = refusedWith 1 0 0 0; buffer = words })
     (pick (ltb (length words) leastWords) (record { answer = refusedWith 2 0 0 0; buffer = words })
-    (bySheet text (seen habit sheet) words (sheetCheck sheet)))
+    (bySheet text (seen call sheet) words (ownPrimary call sheet) (sheetCheck sheet)))
+
+-- the default call of a party, and the archive loader's
+abbrev pub ruleCall : ℕ → ℕ → Call
+ruleCall party primary = record { habit = Rule; party = party; primary = primary }
+
+abbrev pub archiveCall : ℕ → ℕ → Call
+archiveCall party primary = record { habit = Archive; party = party; primary = primary }

@@ -35,6 +35,10 @@ lastEventInformation = 2 ^ 10 - 1
 abbrev pub lastAdapter : ℕ
 lastAdapter = 255
 
+-- document 02, §6: "P 0 to 255"
+abbrev pub lastParty : ℕ
+lastParty = 255
+
 -- "A name has 1 to 48 bytes"
 abbrev pub longestName : ℕ
 longestName = 48

@@ -8,7 +8,7 @@ use lib.ListN.{length, take}
 use lib.Seq.{length-take-le}
 use lib.Dec.{ltb}
 use borrow.Author.Tests.{le-ltb, lt-ltb, ltb-true, ltb-false}
-use mir.Syntax.{w64}
+use mir.Syntax.{w8, w64}
 use mir.Val.{Fits}
 use Rattle.text.specs.Choice.{pick}
 use Rattle.text.proofs.Tests.{lt-yes, lt-no}
@@ -22,17 +22,27 @@ use Rattle.tokens.specs.Lex.{Lexing, ended, refused, token, lexText, answerFrom
 use Rattle.tokens.specs.declared.cursor.Refusal.{Refusal}
 use Rattle.tokens.specs.declared.lexer.Lexed.{Lexed}
 use Rattle.tokens.specs.declared.lexer.Lexed.the-variants.{Tokens, Refused}
-use Rattle.sheet.specs.Sheet.{sheetCheck}
-use Rattle.sheet.specs.declared.Habit.{Habit}
-use Rattle.sheet.specs.View.{View, viewOf, settingsOf}
+use Rattle.model.specs.Limits.{lastAdapter}
+use Rattle.sheet.specs.Sheet.{lines, well-formed, sheetCheck, lists}
+use Rattle.sheet.specs.Party.{owns}
+use Rattle.sheet.specs.Adapters.{has, packed}
+use Rattle.sheet.specs.Survey.{surveyOf}
+use Rattle.sheet.specs.View.{View, seen, ownPrimary, viewOf, settingsOf}
+use Rattle.sheet.specs.declared.Call.{Call}
 use Rattle.sheet.specs.declared.Settings.{Settings}
-use Rattle.sheet.specs.declared.rows.Sheet.{Sheet}
+use Rattle.sheet.specs.declared.adapters.Adapters.{Adapters}
+use Rattle.sheet.specs.declared.rows.Survey.{Survey}
+use Rattle.sheet.specs.declared.rows.Verdict.{Verdict}
+use Rattle.sheet.specs.declared.rows.Verdict.the-variants.{BadLine}
+use Rattle.sheet.proofs.AdapterLaws.{has-packed}
+use Rattle.sheet.proofs.SurveyLaws.{survey-bad, survey-well}
+use Rattle.sheet.proofs.ViewLaws.{seen-settings}
 use Rattle.language.specs.Range.{rangeOf}
 use Rattle.language.specs.Section.{Lists, ruleAt}
 use Rattle.tokens.specs.Ended.{Ended, recordWords, tokenLine, tokenColumn}
 use Rattle.tokens.specs.Placed.{All-in-word}
 use Rattle.model.specs.Lists.{triggersOf, conditionsOf, acceptedWith, refusedWith}
-use Rattle.language.specs.Read.{parsed, ruleOf, lexedFrom, byText, bySheet, Outcome, seen, readOf}
+use Rattle.language.specs.Read.{parsed, ruleOf, lexedFrom, byPrimary, byText, bySheet, Outcome, readOf}
 use Rattle.language.specs.Demand.{Exact}
 use Rattle.tokens.specs.Buffer.{Holds, frontOf}
 use Rattle.model.specs.declared.Triggers.{Triggers}
@@ -40,7 +50,7 @@ use Rattle.model.specs.declared.Conditions.{Conditions}
 use Rattle.model.specs.declared.Answer.{Answer}
 use Rattle.language.proofs.Theorem.{lexed-complete, few, exact}
 use Rattle.language.proofs.HoldsLaws.{read-holds}
-use Rattle.reader.specs.Parts.{toRule, placed, answered}
+use Rattle.reader.specs.Parts.{toRule, placed, answered, notOwn}
 use Rattle.reader.specs.declared.parts.Rule.{Rule}
 use Rattle.reader.proofs.RuleLaws.{one-answer}
 use Rattle.tokens.proofs.BufferLaws.{buffer-size, records-count, line-in, column-in, end-line, end-column, line-past, column-past, answer-ended, Refused-at, answer-refused, buffer-records}
@@ -100,21 +110,21 @@ module _ (text : List ℕ) (view : View) (words : List ℕ) (short : length text
       rw (records, a .3, a .4) (answered-parsed (all-in-word text short) (a .1) (ruleOf text (recordWords (lexText text)) view)) ∙
       sym (lexed-complete text view (lexText text) (a .1))
 
-  answer-by : (x : Checked) → lexedBy text view (wordsBy text words x) (answerBy text x) ≡ byText text view words x .answer
-  unfolding answerBy wordsBy byText
+  answer-by : (x : Checked) → lexedBy text view (wordsBy text words x) (answerBy text x) ≡ byText text view words true x .answer
+  unfolding answerBy wordsBy byText byPrimary
   answer-by WellFormed = by-answer (answerFrom 0 (lexText text)) refl
   answer-by (IllFormed line column) = refl
 
-  pub lexed-same : lexedBy text view (lexWords text words) (lexAnswer text words) ≡ byText text view words (checkOf text) .answer
+  pub lexed-same : lexedBy text view (lexWords text words) (lexAnswer text words) ≡ byText text view words true (checkOf text) .answer
   unfolding lexAnswer lexWords
   lexed-same = rw (le-ltb mostBytes (length text) short, le-ltb (length words) leastWords room) (answer-by (checkOf text))
 
-  words-by : (x : Checked) → wordsBy text words x ≡ byText text view words x .buffer
-  unfolding wordsBy byText
+  words-by : (x : Checked) → wordsBy text words x ≡ byText text view words true x .buffer
+  unfolding wordsBy byText byPrimary
   words-by WellFormed = refl
   words-by (IllFormed line column) = refl
 
-  pub words-same : lexWords text words ≡ byText text view words (checkOf text) .buffer
+  pub words-same : lexWords text words ≡ byText text view words true (checkOf text) .buffer
   unfolding lexWords
   words-same = rw (le-ltb mostBytes (length text) short, le-ltb (length words) leastWords room) (words-by (checkOf text))
 
@@ -187,7 +197,7 @@ module _ (text words : List ℕ) {x : Lexed} (answer : x ≡ lexAnswer text word
 
     pub lexed-yes : (view : View) {buffer : List ℕ} {r : Answer} → Asked text words → buffer ≡ lexWords text words →
         r ≡ answered (take (count * recordSize) buffer) line column (ruleOf text (take (count * recordSize) buffer) view) →
-        r ≡ byText text view words (checkOf text) .answer
+        r ≡ byText text view words true (checkOf text) .answer
     lexed-yes view q e h = by-tokens view e h ∙ lexed-same text view words (q .0) (q .1)
 
   by-refusal : (view : View) {number line column : ℕ} {r : Answer} → x ≡ Refused number line column →
@@ -195,12 +205,12 @@ module _ (text words : List ℕ) {x : Lexed} (answer : x ≡ lexAnswer text word
   by-refusal view was h = rw (← answer, was) h
 
   pub lexed-no : (view : View) {number line column : ℕ} {r : Answer} → Asked text words → x ≡ Refused number line column →
-      r ≡ refusedWith number line column 0 → r ≡ byText text view words (checkOf text) .answer
+      r ≡ refusedWith number line column 0 → r ≡ byText text view words true (checkOf text) .answer
   lexed-no view q was h = by-refusal view was h ∙ lexed-same text view words (q .0) (q .1)
 
 -- the words behind the lexer
 pub lexed-words : (text : List ℕ) (view : View) (words : List ℕ) {buffer : List ℕ} → Asked text words → buffer ≡ lexWords text words →
-    buffer ≡ byText text view words (checkOf text) .buffer
+    buffer ≡ byText text view words true (checkOf text) .buffer
 lexed-words text view words q e = e ∙ words-same text view words (q .0) (q .1)
 
 -- a refusal, and its place
@@ -221,12 +231,12 @@ module _ (words : List ℕ) (line column : ℕ) (refusal : Refusal) {count : ℕ
   unfolding placed
   placed-past h e = lt-no (refusal .token) (capacity words) _ _ (rw (← counted) h) e
 
--- the parser's answer on the records; the call's settings are the sheet's
-module _ (habit : Habit) (text words sheet : List ℕ) (line column : ℕ) {settings : Settings} (set : settings ≡ settingsOf habit sheet) {rule : Rule}
+-- the parser's answer on the records
+module _ (settings : Settings) (text words sheet : List ℕ) (line column : ℕ) {rule : Rule}
     (read : rule ≡ toRule (ruleAt (tokens text words) (viewOf settings sheet) (rangeOf words) (capacity words))) where
-  rule-is : rule ≡ toRule (ruleOf text words (seen habit sheet))
-  unfolding ruleOf seen
-  rule-is = read ∙ ap (λ (x : Settings). toRule (ruleAt (tokens text words) (viewOf x sheet) (rangeOf words) (capacity words))) set
+  rule-is : rule ≡ toRule (ruleOf text words (viewOf settings sheet))
+  unfolding ruleOf
+  rule-is = read
 
   yes-by : (m : Res Lists) → rule ≡ toRule m → rule .accepted ≡ true →
       record { number = 0; line = 0; column = 0; detail = 0; triggers = rule .triggers; conditions = rule .conditions } ≡ answered words line column m
@@ -245,60 +255,123 @@ module _ (habit : Habit) (text words sheet : List ℕ) (line column : ℕ) {sett
 
   pub parsed-yes : rule .accepted ≡ true →
       record { number = 0; line = 0; column = 0; detail = 0; triggers = rule .triggers; conditions = rule .conditions } ≡
-      answered words line column (ruleOf text words (seen habit sheet))
-  parsed-yes h = yes-by (ruleOf text words (seen habit sheet)) rule-is h
+      answered words line column (ruleOf text words (viewOf settings sheet))
+  parsed-yes h = yes-by (ruleOf text words (viewOf settings sheet)) rule-is h
 
   pub parsed-no : {a : Answer} → rule .accepted ≡ false → a ≡ placed words line column (rule .refusal) →
-      a ≡ answered words line column (ruleOf text words (seen habit sheet))
-  parsed-no h w = no-by (ruleOf text words (seen habit sheet)) rule-is h w
+      a ≡ answered words line column (ruleOf text words (viewOf settings sheet))
+  parsed-no h w = no-by (ruleOf text words (viewOf settings sheet)) rule-is h w
 
--- question 3's answer, taken apart
-pub sheet-answer : (text : List ℕ) (view : View) (words : List ℕ) (x : Sheet) {r v : Sheet} {a : Answer} → r ≡ x → r ≡ v → a ≡ bySheet text view words v .answer →
-    a ≡ bySheet text view words x .answer
-sheet-answer text view words x e m h = rw (← e, m) h
+-- a call whose primary adapter is not its party's
+pub not-own-by : (x : Checked) {r v : Checked} {a : Answer} → r ≡ x → r ≡ v → a ≡ notOwn v → a ≡ notOwn x
+not-own-by x e m h = rw (← e, m) h
 
-pub sheet-buffer : (text : List ℕ) (view : View) (words : List ℕ) (x : Sheet) {r v : Sheet} {b : List ℕ} → r ≡ x → r ≡ v → b ≡ bySheet text view words v .buffer →
-    b ≡ bySheet text view words x .buffer
-sheet-buffer text view words x e m h = rw (← e, m) h
+not-own-answer : (text : List ℕ) (view : View) (words : List ℕ) (c : Checked) → notOwn c ≡ byText text view words false c .answer
+unfolding notOwn byText byPrimary
+not-own-answer text view words WellFormed = refl
+not-own-answer text view words (IllFormed line column) = refl
+
+not-own-buffer : (text : List ℕ) (view : View) (words : List ℕ) (c : Checked) → words ≡ byText text view words false c .buffer
+unfolding byText byPrimary
+not-own-buffer text view words WellFormed = refl
+not-own-buffer text view words (IllFormed line column) = refl
+
+-- a byte is an adapter
+in-byte : {n : ℕ} → Fits w8 n → n ≤ lastAdapter
+in-byte h = let f = h .fits in omega arith
+
+-- question 3's answer, taken apart: of a sheet that is well formed it says which adapters are the party's, and which are listed
+module _ (call : Call) (text sheet words : List ℕ) {survey : Survey} (checked : survey ≡ surveyOf (call .party) sheet) where
+  abbrev outcome : Outcome
+  outcome = bySheet text (seen call sheet) words (ownPrimary call sheet) (sheetCheck sheet)
+
+  module _ {n : ℕ} (bad : survey .verdict ≡ BadLine n) where
+    bad-same : record { answer = refusedWith 3 n 0 0; buffer = words } ≡ outcome
+    unfolding bySheet
+    bad-same = rw (survey-bad (call .party) sheet (rw checked at bad))
+
+    pub bad-answer : {a : Answer} → a ≡ refusedWith 3 n 0 0 → a ≡ outcome .answer
+    bad-answer e = e ∙ ap (λ (o : Outcome). o .answer) bad-same
+
+    pub bad-buffer : words ≡ outcome .buffer
+    bad-buffer = ap (λ (o : Outcome). o .buffer) bad-same
+
+  module _ (good : survey .verdict ≡ Verdict.WellFormed) (byte : Fits w8 (call .primary)) {own : Bool} (has-own : own ≡ has (survey .said .own) (call .primary)) where
+    kept : (sheetCheck sheet ≡ well-formed) × (survey .said .own ≡ packed (owns (call .party) (lines sheet))) × (survey .said .listed ≡ packed (λ a. lists a (lines sheet)))
+    kept = rw checked (survey-well (call .party) sheet (rw checked at good))
+
+    own-is : own ≡ ownPrimary call sheet
+    unfolding ownPrimary
+    own-is = has-own ∙ ap (λ (set : Adapters). has set (call .primary)) (kept .1) ∙ has-packed _ _ (in-byte byte)
+
+    outcome-is : byText text (seen call sheet) words own (checkOf text) ≡ outcome
+    unfolding bySheet
+    outcome-is = rw (kept .0, own-is)
+
+    view-is : viewOf (record { primary = call .primary; habit = call .habit; own = survey .said .own; listed = survey .said .listed }) sheet ≡ seen call sheet
+    unfolding settingsOf seen
+    view-is = rw (kept .1, kept .2) (seen-settings call sheet)
+
+    abbrev own-outcome : Outcome
+    own-outcome =
+        byText text (viewOf (record { primary = call .primary; habit = call .habit; own = survey .said .own; listed = survey .said .listed }) sheet) words true (checkOf text)
+
+    own-same : own ≡ true → own-outcome ≡ outcome
+    own-same h = rw view-is (rw h at outcome-is)
+
+    pub own-answer : {a : Answer} → own ≡ true → a ≡ own-outcome .answer → a ≡ outcome .answer
+    own-answer h e = e ∙ ap (λ (o : Outcome). o .answer) (own-same h)
+
+    pub own-buffer : {b : List ℕ} → own ≡ true → b ≡ own-outcome .buffer → b ≡ outcome .buffer
+    own-buffer h e = e ∙ ap (λ (o : Outcome). o .buffer) (own-same h)
+
+    other-same : own ≡ false → byText text (seen call sheet) words false (checkOf text) ≡ outcome
+    other-same h = rw h at outcome-is
+
+    pub other-answer : {a : Answer} → own ≡ false → a ≡ notOwn (checkOf text) → a ≡ outcome .answer
+    other-answer h e = e ∙ not-own-answer text (seen call sheet) words (checkOf text) ∙ ap (λ (o : Outcome). o .answer) (other-same h)
+
+    pub other-buffer : own ≡ false → words ≡ outcome .buffer
+    other-buffer h = not-own-buffer text (seen call sheet) words (checkOf text) ∙ ap (λ (o : Outcome). o .buffer) (other-same h)
 
 -- questions 1 and 2, and what lies behind them
-module _ (habit : Habit) (text sheet words : List ℕ) where
-  long-same : mostBytes < length text → record { answer = refusedWith 1 0 0 0; buffer = words } ≡ readOf habit text sheet words
+module _ (call : Call) (text sheet words : List ℕ) where
+  long-same : mostBytes < length text → record { answer = refusedWith 1 0 0 0; buffer = words } ≡ readOf call text sheet words
   unfolding readOf
   long-same h = rw (lt-ltb mostBytes (length text) h)
 
-  small-same : length text ≤ mostBytes → length words < leastWords → record { answer = refusedWith 2 0 0 0; buffer = words } ≡ readOf habit text sheet words
+  small-same : length text ≤ mostBytes → length words < leastWords → record { answer = refusedWith 2 0 0 0; buffer = words } ≡ readOf call text sheet words
   unfolding readOf
   small-same s h = rw (le-ltb mostBytes (length text) s, lt-ltb (length words) leastWords h)
 
-  asked-same : length text ≤ mostBytes → leastWords ≤ length words → bySheet text (seen habit sheet) words (sheetCheck sheet) ≡ readOf habit text sheet words
+  asked-same : length text ≤ mostBytes → leastWords ≤ length words → bySheet text (seen call sheet) words (ownPrimary call sheet) (sheetCheck sheet) ≡ readOf call text sheet words
   unfolding readOf
   asked-same s h = rw (le-ltb mostBytes (length text) s, le-ltb (length words) leastWords h)
 
   module _ {a : Answer} where
-    pub long-answer : mostBytes < length text → a ≡ refusedWith 1 0 0 0 → a ≡ readOf habit text sheet words .answer
+    pub long-answer : mostBytes < length text → a ≡ refusedWith 1 0 0 0 → a ≡ readOf call text sheet words .answer
     long-answer h e = e ∙ ap (λ (o : Outcome). o .answer) (long-same h)
 
-    pub small-answer : length text ≤ mostBytes → length words < leastWords → a ≡ refusedWith 2 0 0 0 → a ≡ readOf habit text sheet words .answer
+    pub small-answer : length text ≤ mostBytes → length words < leastWords → a ≡ refusedWith 2 0 0 0 → a ≡ readOf call text sheet words .answer
     small-answer s h e = e ∙ ap (λ (o : Outcome). o .answer) (small-same s h)
 
-    pub asked-answer : length text ≤ mostBytes → leastWords ≤ length words → a ≡ bySheet text (seen habit sheet) words (sheetCheck sheet) .answer →
-        a ≡ readOf habit text sheet words .answer
+    pub asked-answer : length text ≤ mostBytes → leastWords ≤ length words → a ≡ bySheet text (seen call sheet) words (ownPrimary call sheet) (sheetCheck sheet) .answer →
+        a ≡ readOf call text sheet words .answer
     asked-answer s h e = e ∙ ap (λ (o : Outcome). o .answer) (asked-same s h)
 
-  pub long-buffer : mostBytes < length text → words ≡ readOf habit text sheet words .buffer
+  pub long-buffer : mostBytes < length text → words ≡ readOf call text sheet words .buffer
   long-buffer h = ap (λ (o : Outcome). o .buffer) (long-same h)
 
-  pub small-buffer : length text ≤ mostBytes → length words < leastWords → words ≡ readOf habit text sheet words .buffer
+  pub small-buffer : length text ≤ mostBytes → length words < leastWords → words ≡ readOf call text sheet words .buffer
   small-buffer s h = ap (λ (o : Outcome). o .buffer) (small-same s h)
 
-  pub asked-buffer : {b : List ℕ} → length text ≤ mostBytes → leastWords ≤ length words → b ≡ bySheet text (seen habit sheet) words (sheetCheck sheet) .buffer →
-      b ≡ readOf habit text sheet words .buffer
+  pub asked-buffer : {b : List ℕ} → length text ≤ mostBytes → leastWords ≤ length words → b ≡ bySheet text (seen call sheet) words (ownPrimary call sheet) (sheetCheck sheet) .buffer →
+      b ≡ readOf call text sheet words .buffer
   asked-buffer s h e = e ∙ ap (λ (o : Outcome). o .buffer) (asked-same s h)
 
 -- all that the call promises, by its answer and the words at exit
-pub promised : (habit : Habit) (text sheet words : List ℕ) {a : Answer} {exit : List ℕ} → a ≡ readOf habit text sheet words .answer → exit ≡ readOf habit text sheet words .buffer →
-    ((a ≡ readOf habit text sheet words .answer) × (exit ≡ readOf habit text sheet words .buffer))
-    × (Holds (frontOf (a .number) text) words exit × Exact habit text sheet (length words) a)
-promised habit text sheet words e f =
-    ((e, f), (read-holds habit text sheet words e f, subst (λ (x : Answer). Exact habit text sheet (length words) x) (sym e) (exact habit text sheet words)))
+pub promised : (call : Call) → Fits w8 (call .primary) → (text sheet words : List ℕ) {a : Answer} {exit : List ℕ} → a ≡ readOf call text sheet words .answer → exit ≡ readOf call text sheet words .buffer →
+    ((a ≡ readOf call text sheet words .answer) × (exit ≡ readOf call text sheet words .buffer))
+    × (Holds (frontOf (a .number) text) words exit × Exact call text sheet (length words) a)
+promised call byte text sheet words e f =
+    ((e, f), (read-holds call text sheet words e f, subst (λ (x : Answer). Exact call text sheet (length words) x) (sym e) (exact call (in-byte byte) text sheet words)))

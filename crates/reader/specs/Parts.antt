@@ -5,6 +5,8 @@ use mathlib.Core.List.{List, []}
 use lib.ListN.{set}
 use lib.Dec.{ltb, eqb}
 use Rattle.text.specs.Choice.{pick}
+use Rattle.text.specs.declared.place.Checked.{Checked}
+use Rattle.text.specs.declared.place.Checked.the-variants.{WellFormed, IllFormed}
 use Rattle.tokens.specs.Result.{Res, ok, no, refuse}
 use Rattle.tokens.specs.Record.{capacity, lineAt, columnAt}
 use Rattle.tokens.specs.Cursor.{Tok, at}
@@ -67,3 +69,8 @@ placed words line column r =
 unfoldable pub answered : List ℕ → ℕ → ℕ → Res Lists → Answer
 answered words line column (ok l i) = acceptedWith (l .triggers) (l .conditions)
 answered words line column (no r) = placed words line column r
+
+-- a call whose primary adapter is not its party's: question 4, then 53
+unfoldable pub notOwn : Checked → Answer
+notOwn WellFormed = refusedWith 53 0 0 0
+notOwn (IllFormed line column) = refusedWith 4 line column 0

@@ -2,23 +2,28 @@
 use crate::parts;
 use crate::section;
 use model::Answer;
+use sheet::Call;
 use sheet::Habit;
 use sheet::Settings;
-use sheet::rows::Sheet;
+use sheet::adapters;
+use sheet::rows::Verdict;
+use text::place;
+use text::place::Checked;
 use tokens::cursor::Refusal;
 use tokens::lexer::Lexed;
 ghost use mathlib.Core.Path.{_≡_};
+ghost use mathlib.Core.Bool.{true};
 ghost use Prim.Native.Nat.{_≤_};
 ghost use lib.ListN.{length};
 ghost use Rattle.text.specs.Place.{checkOf};
 ghost use Rattle.tokens.specs.Lex.{mostBytes, leastWords};
 ghost use Rattle.tokens.specs.Buffer.{Holds, frontOf};
 ghost use Rattle.sheet.specs.Sheet.{sheetCheck};
-ghost use Rattle.sheet.specs.declared.Habit.the-variants.{Rule, Archive};
+ghost use Rattle.sheet.specs.View.{viewOf, seen, ownPrimary};
 ghost use Rattle.model.specs.Lists.{refusedWith};
-ghost use Rattle.language.specs.Read.{ruleOf, byText, bySheet, seen, readOf};
+ghost use Rattle.language.specs.Read.{ruleOf, byText, bySheet, readOf, ruleCall, archiveCall};
 ghost use Rattle.language.specs.Demand.{Exact};
-ghost use Rattle.reader.specs.Parts.{placed, answered};
+ghost use Rattle.reader.specs.Parts.{placed, answered, notOwn};
 
 // A refusal has empty lists.
 fn refused(number: u32, line: u32, column: u32, detail: u32) -> Answer
@@ -51,10 +56,16 @@ fn placed_at(words: &[u32], line: u32, column: u32, refusal: Refusal) -> Answer
 }
 
 // Parses the tokens in the records; line and column are the end's.
-fn parse(habit: Habit, text: &[u8], words: &[u32], sheet: &[u8], line: u32, column: u32) -> Answer
-    ensures { λ r. ⌜ r ≡ answered (now (words .entry)) line column (ruleOf (now (text .entry)) (now (words .entry)) (seen habit (now (sheet .entry)))) ⌝ }
+fn parse(
+    settings: Settings,
+    text: &[u8],
+    words: &[u32],
+    sheet: &[u8],
+    line: u32,
+    column: u32,
+) -> Answer
+    ensures { λ r. ⌜ r ≡ answered (now (words .entry)) line column (ruleOf (now (text .entry)) (now (words .entry)) (viewOf settings (now (sheet .entry)))) ⌝ }
 {
-    let settings = sheet::rows::settings(habit, sheet);
     let rule = section::rule(text, words, sheet, settings);
     let triggers = rule.triggers;
     let conditions = rule.conditions;
@@ -72,11 +83,11 @@ fn parse(habit: Habit, text: &[u8], words: &[u32], sheet: &[u8], line: u32, colu
     placed_at(words, line, column, refusal)
 }
 
-// The call from question 4 on, which the lexer asks before it lexes the whole text; then the tokens are parsed. Questions 1 and 2 are
-// passed, here and below.
-fn read_text(habit: Habit, text: &[u8], sheet: &[u8], words: &mut [u32]) -> Answer
+// The call from question 4 on, where its primary adapter is its party's. The lexer asks question 4 before it lexes the whole text; then the tokens are
+// parsed. Questions 1 and 2 are passed, here and below.
+fn read_text(settings: Settings, text: &[u8], sheet: &[u8], words: &mut [u32]) -> Answer
     requires { ⌜ (length (now text) ≤ mostBytes) × (leastWords ≤ length (now words)) ⌝ }
-    ensures { λ r. ⌜ (r ≡ byText (now (text .entry)) (seen habit (now (sheet .entry))) (now (words .entry)) (checkOf (now (text .entry))) .answer) × (now (words .exit) ≡ byText (now (text .entry)) (seen habit (now (sheet .entry))) (now (words .entry)) (checkOf (now (text .entry))) .buffer) ⌝ }
+    ensures { λ r. ⌜ (r ≡ byText (now (text .entry)) (viewOf settings (now (sheet .entry))) (now (words .entry)) true (checkOf (now (text .entry))) .answer) × (now (words .exit) ≡ byText (now (text .entry)) (viewOf settings (now (sheet .entry))) (now (words .entry)) true (checkOf (now (text .entry))) .buffer) ⌝ }
 {
     let lexed = tokens::lexer::lex(text, words);
     match lexed {
@@ -90,7 +101,7 @@ fn read_text(habit: Habit, text: &[u8], sheet: &[u8], words: &mut [u32]) -> Answ
             line,
             column,
         } => parse(
-            habit,
+            settings,
             text,
             &words[..count * tokens::record::RECORD_SIZE],
             sheet,
@@ -100,23 +111,55 @@ fn read_text(habit: Habit, text: &[u8], sheet: &[u8], words: &mut [u32]) -> Answ
     }
 }
 
-// The call from question 3 on.
-fn read_sheet(habit: Habit, text: &[u8], sheet: &[u8], words: &mut [u32]) -> Answer
-    requires { ⌜ (length (now text) ≤ mostBytes) × (leastWords ≤ length (now words)) ⌝ }
-    ensures { λ r. ⌜ (r ≡ bySheet (now (text .entry)) (seen habit (now (sheet .entry))) (now (words .entry)) (sheetCheck (now (sheet .entry))) .answer) × (now (words .exit) ≡ bySheet (now (text .entry)) (seen habit (now (sheet .entry))) (now (words .entry)) (sheetCheck (now (sheet .entry))) .buffer) ⌝ }
+// The call from question 4 on, where its primary adapter is not its party's.
+fn not_own(text: &[u8]) -> Answer
+    ensures { λ r. ⌜ r ≡ notOwn (checkOf (now (text .entry))) ⌝ }
 {
-    let well = sheet::rows::check(sheet);
+    let well = place::check_utf8(text);
     match well {
-        Sheet::BadLine(n) => refused(3, n, 0, 0),
-        Sheet::WellFormed => read_text(habit, text, sheet, words),
+        Checked::IllFormed { line, column } => refused(4, line, column, 0),
+        Checked::WellFormed => refused(53, 0, 0, 0),
+    }
+}
+
+// The call from question 3 on.
+fn read_sheet(call: Call, text: &[u8], sheet: &[u8], words: &mut [u32]) -> Answer
+    requires { ⌜ (length (now text) ≤ mostBytes) × (leastWords ≤ length (now words)) ⌝ }
+    ensures { λ r. ⌜ (r ≡ bySheet (now (text .entry)) (seen call (now (sheet .entry))) (now (words .entry)) (ownPrimary call (now (sheet .entry))) (sheetCheck (now (sheet .entry))) .answer) × (now (words .exit) ≡ bySheet (now (text .entry)) (seen call (now (sheet .entry))) (now (words .entry)) (ownPrimary call (now (sheet .entry))) (sheetCheck (now (sheet .entry))) .buffer) ⌝ }
+{
+    let primary = call.primary as u32;
+    let habit = call.habit;
+    let survey = sheet::rows::check(sheet, call.party as u32);
+    let said = survey.said;
+    let own = said.own;
+    let listed = said.listed;
+    let verdict = survey.verdict;
+    match verdict {
+        Verdict::BadLine(n) => refused(3, n, 0, 0),
+        Verdict::WellFormed => {
+            if adapters::has(own, primary) {
+                return read_text(
+                    Settings {
+                        primary,
+                        habit,
+                        own,
+                        listed,
+                    },
+                    text,
+                    sheet,
+                    words,
+                );
+            }
+            not_own(text)
+        }
     }
 }
 
 // The call of either habit.
-pub fn read_by(habit: Habit, text: &[u8], sheet: &[u8], words: &mut [u32]) -> Answer
-    ensures { λ r. ⌜ (r ≡ readOf habit (now (text .entry)) (now (sheet .entry)) (now (words .entry)) .answer) × (now (words .exit) ≡ readOf habit (now (text .entry)) (now (sheet .entry)) (now (words .entry)) .buffer) ⌝ }
+pub fn read_by(call: Call, text: &[u8], sheet: &[u8], words: &mut [u32]) -> Answer
+    ensures { λ r. ⌜ (r ≡ readOf call (now (text .entry)) (now (sheet .entry)) (now (words .entry)) .answer) × (now (words .exit) ≡ readOf call (now (text .entry)) (now (sheet .entry)) (now (words .entry)) .buffer) ⌝ }
     ensures buffer { λ r. ⌜ Holds (frontOf (r .number) (now (text .entry))) (now (words .entry)) (now (words .exit)) ⌝ }
-    ensures reading { λ r. ⌜ Exact habit (now (text .entry)) (now (sheet .entry)) (length (now (words .entry))) r ⌝ }
+    ensures reading { λ r. ⌜ Exact call (now (text .entry)) (now (sheet .entry)) (length (now (words .entry))) r ⌝ }
 {
     if tokens::lexer::MOST_BYTES < text.len() {
         return refused(1, 0, 0, 0);
@@ -124,27 +167,45 @@ pub fn read_by(habit: Habit, text: &[u8], sheet: &[u8], words: &mut [u32]) -> An
     if words.len() < tokens::lexer::LEAST_WORDS {
         return refused(2, 0, 0, 0);
     }
-    read_sheet(habit, text, sheet, words)
+    read_sheet(call, text, sheet, words)
 }
 
-// Reads a rule text with a name sheet. The tokens' records go to the lent words. The answer, and each word at exit, are those of the definition of the whole
-// call; said in other words, the first words are the records of the tokens completed before the refusal, or of all, and every other word is the one that was
-// there; and the third demand: it is accepted exactly when the text has a reading with the sheet, with that reading's lists. A repeated argument of `input(` is
-// refused.
-pub fn read(text: &[u8], sheet: &[u8], words: &mut [u32]) -> Answer
-    ensures { λ r. ⌜ (r ≡ readOf Rule (now (text .entry)) (now (sheet .entry)) (now (words .entry)) .answer) × (now (words .exit) ≡ readOf Rule (now (text .entry)) (now (sheet .entry)) (now (words .entry)) .buffer) ⌝ }
+// Reads a rule text with a name sheet, for a party, with its own primary adapter. The tokens' records go to the lent words. The answer, and each word at exit,
+// are those of the definition of the whole call; said in other words, the first words are the records of the tokens completed before the refusal, or of all, and
+// every other word is the one that was there; and the third demand: it is accepted exactly when the text has a reading with what the party sees of the sheet, with
+// that reading's lists. A repeated argument of `input(` is refused.
+pub fn read(text: &[u8], sheet: &[u8], party: u8, primary: u8, words: &mut [u32]) -> Answer
+    ensures { λ r. ⌜ (r ≡ readOf (ruleCall party primary) (now (text .entry)) (now (sheet .entry)) (now (words .entry)) .answer) × (now (words .exit) ≡ readOf (ruleCall party primary) (now (text .entry)) (now (sheet .entry)) (now (words .entry)) .buffer) ⌝ }
     ensures buffer { λ r. ⌜ Holds (frontOf (r .number) (now (text .entry))) (now (words .entry)) (now (words .exit)) ⌝ }
-    ensures reading { λ r. ⌜ Exact Rule (now (text .entry)) (now (sheet .entry)) (length (now (words .entry))) r ⌝ }
+    ensures reading { λ r. ⌜ Exact (ruleCall party primary) (now (text .entry)) (now (sheet .entry)) (length (now (words .entry))) r ⌝ }
 {
-    read_by(Habit::Rule, text, sheet, words)
+    read_by(
+        Call {
+            habit: Habit::Rule,
+            party,
+            primary,
+        },
+        text,
+        sheet,
+        words,
+    )
 }
 
 // The archive loader's call: the same, but that a repeated argument of `input(` replaces the earlier one. Where `read` does not answer 63, this call answers
 // as it does.
-pub fn read_archive(text: &[u8], sheet: &[u8], words: &mut [u32]) -> Answer
-    ensures { λ r. ⌜ (r ≡ readOf Archive (now (text .entry)) (now (sheet .entry)) (now (words .entry)) .answer) × (now (words .exit) ≡ readOf Archive (now (text .entry)) (now (sheet .entry)) (now (words .entry)) .buffer) ⌝ }
+pub fn read_archive(text: &[u8], sheet: &[u8], party: u8, primary: u8, words: &mut [u32]) -> Answer
+    ensures { λ r. ⌜ (r ≡ readOf (archiveCall party primary) (now (text .entry)) (now (sheet .entry)) (now (words .entry)) .answer) × (now (words .exit) ≡ readOf (archiveCall party primary) (now (text .entry)) (now (sheet .entry)) (now (words .entry)) .buffer) ⌝ }
     ensures buffer { λ r. ⌜ Holds (frontOf (r .number) (now (text .entry))) (now (words .entry)) (now (words .exit)) ⌝ }
-    ensures reading { λ r. ⌜ Exact Archive (now (text .entry)) (now (sheet .entry)) (length (now (words .entry))) r ⌝ }
+    ensures reading { λ r. ⌜ Exact (archiveCall party primary) (now (text .entry)) (now (sheet .entry)) (length (now (words .entry))) r ⌝ }
 {
-    read_by(Habit::Archive, text, sheet, words)
+    read_by(
+        Call {
+            habit: Habit::Archive,
+            party,
+            primary,
+        },
+        text,
+        sheet,
+        words,
+    )
 }

@@ -6,10 +6,11 @@ use mathlib.Core.Bool.{Bool, true, false}
 use mathlib.Core.List.{List, [], _∷_}
 use native.Mathlib.Omega.{arith}
 use lib.Dec.{leb, eqb}
-use borrow.Author.Tests.{leb-true, eqb-true}
+use borrow.Author.Tests.{leb-true, eqb-true, le-leb, lt-leb, ne-eqb}
 use Rattle.text.specs.Choice.{pick, within}
 use Rattle.tokens.specs.declared.cursor.Refusal.{Refusal}
 use Rattle.tokens.specs.Result.{Res, ok, no, bind, perhaps}
+use Rattle.tokens.specs.Buffer.{isAskedFirst}
 use Rattle.tokens.specs.Cursor.{Tok, takeKind, takeWord, takeIn}
 use Rattle.sheet.specs.Sheet.{Entry}
 use Rattle.sheet.specs.View.{View}
@@ -42,6 +43,17 @@ either-true false y P f g e = g e
 -- each is 20 or more: none is a question that is put before the parser's
 pub refusal-least : (n : ℕ) → isRefusal n ≡ true → 20 ≤ n
 refusal-least n = either-true (within 20 41 n) (eqb n 63) (20 ≤ n) (λ e. leb-true _ _ (both-true (leb 20 n) _ e .0)) (λ e. let q = eqb-true n 63 e in omega arith)
+
+-- and none is one that is asked before the text is lexed
+pub refusal-late : (n : ℕ) → isRefusal n ≡ true → isAskedFirst n ≡ false
+refusal-late n =
+    either-true (within 20 41 n) (eqb n 63) (isAskedFirst n ≡ false)
+    (λ e.
+    let b = both-true (leb 20 n) _ e in
+    let least = leb-true 20 n (b .0) in
+    let most = leb-true n 41 (b .1) in
+    rw (le-leb 1 n (omega arith), lt-leb n 4 (omega arith), ne-eqb n 53 (omega arith)))
+    (λ e. rw (eqb-true n 63 e))
 
 pub ok-refuses : {A : Type 0} (a : A) (j : ℕ) → Refuses (ok a j)
 unfolding Refuses

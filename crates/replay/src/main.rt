@@ -16,39 +16,63 @@ const WORDS: usize = 8192;
 // The greatest party and primary adapter.
 const MOST: u64 = 255;
 
-// The first line of a case or a call: its habit and number, the words that it lends, and the sizes of what follows. A case has no topics.
-struct Head {
+// What a call names beside its text and its sheet.
+struct Names {
     habit: u32,
+    party: u8,
+    primary: u8,
+}
+
+// The first line of a case or a call: what it names and its number, the words that it lends, and the sizes of what follows. A case names no primary adapter
+// and has no topics.
+struct Head {
+    names: Names,
     id: u64,
     words: usize,
     text: usize,
     sheet: usize,
-    has_topics: bool,
+    is_case: bool,
     topics: usize,
 }
 
 // The call of a habit.
-fn read(habit: u32, text: &[u8], sheet: &[u8], words: &mut [u32], answer: &mut [u32]) -> u32 {
-    if habit == input::ARCHIVE {
-        return tergyosul::tergyosul_read_archive(text, sheet, words, answer);
+fn read(names: Names, text: &[u8], sheet: &[u8], words: &mut [u32], answer: &mut [u32]) -> u32 {
+    if names.habit == input::ARCHIVE {
+        return tergyosul::tergyosul_read_archive(
+            text,
+            sheet,
+            names.party,
+            names.primary,
+            words,
+            answer,
+        );
     }
-    tergyosul::tergyosul_read(text, sheet, words, answer)
+    tergyosul::tergyosul_read(text, sheet, names.party, names.primary, words, answer)
 }
 
 // Calls the reader with so many words and writes its answer; false where there are fewer.
-fn call(habit: u32, id: u64, text: &[u8], sheet: &[u8], words: &mut [u32], count: usize) -> bool {
+fn call(names: Names, id: u64, text: &[u8], sheet: &[u8], words: &mut [u32], count: usize) -> bool {
     if words.len() < count {
         return false;
     }
     let mut answer = [layout::UNTOUCHED; layout::ANSWER];
-    let number = read(habit, text, sheet, &mut words[..count], &mut answer);
+    let number = read(names, text, sheet, &mut words[..count], &mut answer);
     report::case(id, text, words, &answer, number);
     true
 }
 
+// What a call names with its sheet, whose own primary adapter is a case's.
+fn named(head: Head, sheet: &[u8]) -> Names {
+    let mut names = head.names;
+    if head.is_case {
+        names.primary = tergyosul::tergyosul_sheet_primary(sheet) as u8;
+    }
+    names
+}
+
 // Reads the topics of a call, which are not used yet; false where they are not there.
 fn pass_topics(head: Head) -> bool {
-    if !head.has_topics {
+    if head.is_case {
         return true;
     }
     let mut topics = [0u8; BYTES];
@@ -69,11 +93,12 @@ fn run(head: Head) -> bool {
     if !pass_topics(head) {
         return false;
     }
+    let sheet = text::part::part(&sheet, 0, head.sheet);
     call(
-        head.habit,
+        named(head, sheet),
         head.id,
         text::part::part(&text, 0, head.text),
-        text::part::part(&sheet, 0, head.sheet),
+        sheet,
         &mut words,
         head.words,
     )
@@ -89,19 +114,18 @@ fn rest_of_case() -> bool {
         return false;
     }
     run(Head {
-        habit: input::ARCHIVE,
+        names: Names {
+            habit: input::ARCHIVE,
+            party: 0,
+            primary: 0,
+        },
         id,
         words: words as usize,
         text: text as usize,
         sheet: sheet as usize,
-        has_topics: false,
+        is_case: true,
         topics: 0,
     })
-}
-
-// The habit, the party and the primary adapter of a call, the last two of which are not used yet; are they there?
-fn are_settings(habit: u32, party: u64, primary: u64) -> bool {
-    habit != input::NO_HABIT && party <= MOST && primary <= MOST
 }
 
 // What follows `call ` in a call; false where it is none.
@@ -117,16 +141,26 @@ fn rest_of_call() -> bool {
     if id == input::NONE {
         return false;
     }
-    if !are_settings(habit, party, primary) {
+    if habit == input::NO_HABIT {
+        return false;
+    }
+    if MOST < party {
+        return false;
+    }
+    if MOST < primary {
         return false;
     }
     run(Head {
-        habit,
+        names: Names {
+            habit,
+            party: party as u8,
+            primary: primary as u8,
+        },
         id,
         words: words as usize,
         text: text as usize,
         sheet: sheet as usize,
-        has_topics: true,
+        is_case: false,
         topics: topics as usize,
     })
 }

@@ -1,11 +1,16 @@
-// `rules check [--archive] RULES SHEET`: both lists in plain words, or one diagnostic.
+// `rules check RULES SHEET`, with perhaps options: both lists in plain words, or one diagnostic.
 use crate::diagnose;
 use crate::files;
 use crate::layout;
+use crate::options;
+use crate::options::Options;
 use crate::out;
 use crate::reading;
 use crate::rows;
 use crate::say;
+use crate::seen;
+use sheet::Call;
+use sheet::Habit;
 
 // Is a row in use? Rows 1 to 4 are for triggers, 5 to 8 for conditions.
 fn is_used(answer: &[u32], row: u32) -> bool {
@@ -37,27 +42,71 @@ fn accepted(text: &[u8], sheet: &[u8], answer: &[u32]) {
     say::numbers(answer, b"accepted: %n4 trigger%P4, %n5 condition%P5\n");
 }
 
-// Reads the rule, by the archive loader's call or the default one, and says what came of it.
-fn answered(archive: bool, text: &[u8], sheet: &[u8], text_name: &[u8], sheet_name: &[u8]) {
-    let mut words = [0u32; tokens::lexer::LEAST_WORDS];
-    let mut answer = [0u32; 108];
-    if reading::read(archive, text, sheet, &mut words, &mut answer) == 0 {
-        accepted(text, sheet, &answer);
+// The number that is given, or else another.
+fn given(n: u32, other: u8) -> u8 {
+    if n < options::NONE {
+        return n as u8;
+    }
+    other
+}
+
+fn habit(archive: bool) -> Habit {
+    if archive {
+        return Habit::Archive;
+    }
+    Habit::Rule
+}
+
+// The call that the options ask for: for party 0 unless one is given, with the sheet's own primary adapter unless one is given.
+fn asked(o: Options, sheet: &[u8]) -> Call {
+    Call {
+        habit: habit(o.archive),
+        party: given(o.party, 0),
+        primary: given(o.primary, given(reading::primary(sheet), 0)),
+    }
+}
+
+// What came of the call, said with what its party sees of the sheet.
+fn said(
+    call: Call,
+    text: &[u8],
+    sheet: &[u8],
+    words: &mut [u32],
+    answer: &[u32],
+    text_name: &[u8],
+    sheet_name: &[u8],
+) {
+    let mut buffer = [0u8; 20000];
+    let size = seen::put(sheet, call.party, &mut buffer);
+    let seen = text::part::part(&buffer, 0, size);
+    if layout::number(answer) == 0 {
+        accepted(text, seen, answer);
         return;
     }
-    diagnose::show(
+    diagnose::show(text, seen, words, answer, text_name, sheet_name, call);
+}
+
+// Reads the rule and says what came of it.
+fn answered(call: Call, text: &[u8], sheet: &[u8], text_name: &[u8], sheet_name: &[u8]) {
+    let mut words = [0u32; tokens::lexer::LEAST_WORDS];
+    let mut answer = [0u32; 108];
+    if reading::read(call, text, sheet, &mut words, &mut answer) == 3 {
+        diagnose::bad_sheet(sheet, &answer, sheet_name);
+        return;
+    }
+    said(
+        call,
         text,
         sheet,
         &mut words,
         &answer,
         text_name,
         sheet_name,
-        archive,
     );
 }
 
 // Reads both files and the rule.
-fn with_files(archive: bool, text_name: &[u8], sheet_name: &[u8]) {
+fn with_files(o: Options, text_name: &[u8], sheet_name: &[u8]) {
     let mut text = [0u8; 20000];
     let mut sheet = [0u8; 20000];
     let first = files::load(text_name, &mut text);
@@ -70,23 +119,24 @@ fn with_files(archive: bool, text_name: &[u8], sheet_name: &[u8]) {
         files::complain(sheet_name, second.fault);
         return;
     }
+    let sheet = text::part::part(&sheet, 0, second.size);
     answered(
-        archive,
+        asked(o, sheet),
         text::part::part(&text, 0, first.size),
-        text::part::part(&sheet, 0, second.size),
+        sheet,
         text_name,
         sheet_name,
     );
 }
 
 // The names of the files are the words of the call at two indices.
-pub fn run(archive: bool, text_at: usize, sheet_at: usize) {
+pub fn run(o: Options, text_at: usize, sheet_at: usize) {
     let mut text_name = [0u8; 4095];
     let mut sheet_name = [0u8; 4095];
     let n = os::arg(text_at, &mut text_name);
     let m = os::arg(sheet_at, &mut sheet_name);
     with_files(
-        archive,
+        o,
         text::part::part(&text_name, 0, n),
         text::part::part(&sheet_name, 0, m),
     );

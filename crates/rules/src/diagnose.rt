@@ -11,6 +11,7 @@ use crate::sheet_fault;
 use crate::source;
 use crate::stands;
 use crate::title;
+use sheet::Call;
 
 // The count of the text's tokens; 0 if it cannot be cut into tokens.
 fn token_count(text: &[u8], words: &mut [u32]) -> usize {
@@ -22,10 +23,10 @@ fn token_count(text: &[u8], words: &mut [u32]) -> usize {
 }
 
 // File, line, column, number and what is wrong.
-fn head(text: &[u8], words: &[u32], name: &[u8], f: Fault) {
+fn head(text: &[u8], sheet: &[u8], words: &[u32], name: &[u8], f: Fault) {
     out::shown(name);
     place(f);
-    title::show(text, words, f);
+    title::show(text, sheet, words, f);
     out::line_end();
 }
 
@@ -67,9 +68,9 @@ fn way_out(text: &[u8], sheet: &[u8], words: &[u32], f: Fault) {
     out::line_end();
 }
 
-// The diagnostic of a fault in the rule text, up to the last line of the output.
-fn of_text(text: &[u8], sheet: &[u8], words: &[u32], name: &[u8], f: Fault) {
-    head(text, words, name, f);
+// The diagnostic of a fault up to the last line of the output.
+fn explained(text: &[u8], sheet: &[u8], words: &[u32], name: &[u8], f: Fault) {
+    head(text, sheet, words, name, f);
     line(text, words, f);
     belonging(text, sheet, words, f);
     way_out(text, sheet, words, f);
@@ -84,7 +85,14 @@ fn verdict(answer: &[u32]) {
     say::numbers(answer, b"refused: %n0 at %n1:%n2\n");
 }
 
-// The diagnostic of what an answer, of the archive loader's call or the default one, refuses. The names are those of the files.
+// The diagnostic of a sheet that is refused with 3.
+pub fn bad_sheet(sheet: &[u8], answer: &[u32], name: &[u8]) {
+    sheet_fault::show(sheet, name, layout::line(answer));
+    verdict(answer);
+}
+
+// The diagnostic of what the answer of a call refuses, the sheet apart, of which this is what the party sees. The names are those of the files: the text's
+// stands before what is wrong with it, the sheet's before 53, which is about whose an adapter is.
 pub fn show(
     text: &[u8],
     sheet: &[u8],
@@ -92,15 +100,14 @@ pub fn show(
     answer: &[u32],
     text_name: &[u8],
     sheet_name: &[u8],
-    archive: bool,
+    call: Call,
 ) {
-    if layout::number(answer) == 3 {
-        sheet_fault::show(sheet, sheet_name, layout::line(answer));
-        verdict(answer);
-        return;
-    }
     let count = token_count(text, words);
-    let f = fault::of(text, words, answer, count, archive);
-    of_text(text, sheet, words, text_name, f);
+    let f = fault::of(text, words, answer, count, call);
+    if f.number == 53 {
+        explained(text, sheet, words, sheet_name, f);
+    } else {
+        explained(text, sheet, words, text_name, f);
+    }
     verdict(answer);
 }

@@ -10,6 +10,7 @@ use crate::reading;
 use crate::source;
 use crate::split;
 use crate::trial;
+use sheet::Call;
 
 // Is a candidate, which begins the line `line`, taken by the reader? It is if it is not refused itself, or only for its value (22, 25, 35, 36).
 // Refusals below 20 say nothing of it. A 30 says that the candidate needs one instance where there is a group; only `)` just meets it.
@@ -53,7 +54,7 @@ fn belongs(
     sheet: &[u8],
     words: &mut [u32],
     line: u32,
-    archive: bool,
+    call: Call,
 ) -> bool {
     if candidate.len() == 0 {
         return false;
@@ -61,7 +62,7 @@ fn belongs(
     let mut answer = [0u32; 108];
     let at = put(trial, start, candidate);
     reading::read(
-        archive,
+        call,
         text::part::part(trial, 0, at),
         sheet,
         words,
@@ -71,10 +72,10 @@ fn belongs(
 }
 
 // May the text end behind its first bytes?
-fn may_end(trial: &[u8], start: usize, sheet: &[u8], words: &mut [u32], archive: bool) -> bool {
+fn may_end(trial: &[u8], start: usize, sheet: &[u8], words: &mut [u32], call: Call) -> bool {
     let mut answer = [0u32; 108];
     reading::read(
-        archive,
+        call,
         text::part::part(trial, 0, start),
         sheet,
         words,
@@ -91,13 +92,13 @@ fn mark(
     sheet: &[u8],
     words: &mut [u32],
     line: u32,
-    archive: bool,
+    call: Call,
     marks: &mut [u8],
 ) {
     let mut k = 0;
     while k < 127 {
         let candidate = split::word(list, k);
-        let is_in = belongs(trial, start, candidate, sheet, words, line, archive);
+        let is_in = belongs(trial, start, candidate, sheet, words, line, call);
         marks::set(marks, k, is_in);
         k += 1;
     }
@@ -162,10 +163,10 @@ pub fn show(text: &[u8], sheet: &[u8], words: &[u32], f: Fault) {
         sheet,
         &mut trial_words,
         f.line,
-        f.archive,
+        f.call,
         &mut marks,
     );
-    let is_in = may_end(&trial, start, sheet, &mut trial_words, f.archive);
+    let is_in = may_end(&trial, start, sheet, &mut trial_words, f.call);
     marks::set(&mut marks, 127, is_in);
     lines(list, &marks, word_at(text, words, f), f.line);
 }

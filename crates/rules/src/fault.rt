@@ -2,9 +2,10 @@
 use crate::layout;
 use crate::out;
 use crate::split;
+use sheet::Call;
 
 // The refusal; the offset of its place in the text; if the text was cut into tokens, how many there are and the index of the one that
-// stands there, which is their count at the end of the text; and whether the archive loader's call refused it.
+// stands there, which is their count at the end of the text; and the call that refused it.
 pub struct Fault {
     pub number: u32,
     pub line: u32,
@@ -13,7 +14,7 @@ pub struct Fault {
     pub at: usize,
     pub token: usize,
     pub count: usize,
-    pub archive: bool,
+    pub call: Call,
 }
 
 // The offset of a line and a column, which count characters from 1.
@@ -43,7 +44,7 @@ fn token_at(words: &[u32], count: usize, line: u32, column: u32) -> usize {
 }
 
 // What an answer refuses; count is 0 unless the text was cut into tokens.
-pub fn of(text: &[u8], words: &[u32], answer: &[u32], count: usize, archive: bool) -> Fault {
+pub fn of(text: &[u8], words: &[u32], answer: &[u32], count: usize, call: Call) -> Fault {
     let line = layout::line(answer);
     let column = layout::column(answer);
     Fault {
@@ -54,6 +55,6 @@ pub fn of(text: &[u8], words: &[u32], answer: &[u32], count: usize, archive: boo
         at: offset(text, line, column),
         token: token_at(words, count, line, column),
         count,
-        archive,
+        call,
     }
 }

@@ -63,7 +63,11 @@ pub fn show(text: &[u8], sheet: &[u8], words: &[u32], f: Fault) {
         return;
     }
     if f.number == 25 {
-        lookup::adapters(sheet);
+        lookup::adapters(sheet, words, f);
+        return;
+    }
+    if f.number == 53 {
+        lookup::primaries(sheet, f);
         return;
     }
     if 31 <= f.number && f.number <= 34 {

@@ -6,6 +6,8 @@ use crate::out;
 use crate::reading;
 use crate::say;
 use crate::stands;
+use sheet::Call;
+use sheet::Habit;
 
 fn place(words: &[u32], i: usize) {
     let row = [
@@ -47,7 +49,12 @@ fn answered(text: &[u8], name: &[u8]) {
     let mut words = [0u32; tokens::lexer::LEAST_WORDS];
     let mut answer = [0u32; 4];
     if reading::lex(text, &mut words, &mut answer) != 0 {
-        diagnose::show(text, b"", &mut words, &answer, name, name, false);
+        let call = Call {
+            habit: Habit::Rule,
+            party: 0,
+            primary: 0,
+        };
+        diagnose::show(text, b"", &mut words, &answer, name, name, call);
         return;
     }
     accepted(text, &words, &answer);

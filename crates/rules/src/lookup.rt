@@ -1,4 +1,5 @@
-// The way out where a name or an adapter is not on the sheet as it is written.
+// The way out where a name or an adapter is not on the sheet as it is written. A sheet is here what the call's party sees of it, so that nothing of
+// others is offered.
 use crate::fault::Fault;
 use crate::items;
 use crate::items::Written;
@@ -6,24 +7,51 @@ use crate::marks;
 use crate::out;
 use crate::reference;
 use crate::say;
+use crate::seen;
 use crate::sheets;
 use crate::sheets::Question;
 use crate::split;
-use sheet::Habit;
 
-// The adapters that the sheet lists.
-pub fn adapters(sheet: &[u8]) {
-    let mut marks = [0u8; 256];
-    sheets::mark_adapters(sheet, &mut marks, true);
-    listed(&marks);
+// Says for which party the sheet lists adapters, if not all adapters are the party's.
+fn for_party(sheet: &[u8], party: u8) {
+    if seen::is_shared(sheet, party) {
+        say::number(party as u32, b"for party %n0 ");
+    }
 }
 
-fn listed(marks: &[u8]) {
-    let table = b"_ the sheet lists the adapters %M0: write one of these, or add a row to the sheet
-0 the sheet lists no adapter: add a row such as adapter,0
-1 the sheet lists only adapter %M0: write one of these, or add a row to the sheet";
+// The adapters in a set, in a sentence for none, for one and for several, in which `%n0` is a number.
+fn by_count(marks: &[u8], n: u32, table: &[u8]) {
     let count = text::place::held(marks::count(marks));
-    say::set(marks, 0, split::numbered(table, count));
+    say::set(marks, n, split::numbered(table, count));
+}
+
+// A row may list another adapter, if it is the party's.
+fn or_add(sheet: &[u8], party: u8, adapter: u32) {
+    if seen::is_own(sheet, party, adapter) {
+        out::bytes(b", or add a row to the sheet");
+    }
+}
+
+// 25: the adapters that the sheet lists, in the place of another.
+pub fn adapters(sheet: &[u8], words: &[u32], f: Fault) {
+    let table = b"_ the sheet lists the adapters %M0: write one of these
+0 the sheet lists no adapter: leave it out
+1 the sheet lists only adapter %M0: write this one";
+    let mut marks = [0u8; 256];
+    sheets::mark_adapters(sheet, &mut marks, true);
+    for_party(sheet, f.call.party);
+    by_count(&marks, 0, table);
+    or_add(sheet, f.call.party, tokens::record::number(words, f.token));
+}
+
+// 53: the adapters that the party may name as its primary.
+pub fn primaries(sheet: &[u8], f: Fault) {
+    let table = b"_ party %n0 has the adapters %M0 on the sheet: write one of these behind --primary
+0 party %n0 has no adapter on the sheet: write another party behind --party, or add a party row to the sheet
+1 party %n0 has only adapter %M0 on the sheet: write --primary %M0";
+    let mut marks = [0u8; 256];
+    seen::mark_own(sheet, f.call.party, &mut marks);
+    by_count(&marks, f.call.party as u32, table);
 }
 
 // The rows of a kind that have a name, 1, or nearly have it, 2; of an adapter, 256 for any.
@@ -146,13 +174,12 @@ fn one_adapter(sheet: &[u8], name: &[u8], kind: u32, scope: u32) -> u32 {
     text::place::held(marks::first(&marks))
 }
 
-// The adapter to write behind a number: none behind one on the primary adapter, or where one is written already.
-fn needed(sheet: &[u8], kind: u32, scope: u32, adapter: u32) -> u32 {
+// The adapter to write behind a number: none behind one on the call's primary adapter, or where one is written already.
+fn needed(primary: u8, kind: u32, scope: u32, adapter: u32) -> u32 {
     if kind == 4 && scope != 256 {
         return 256;
     }
-    let own = sheet::rows::settings(Habit::Rule, sheet);
-    if own.primary == adapter {
+    if primary as u32 == adapter {
         return 256;
     }
     adapter
@@ -170,7 +197,7 @@ fn numbers(sheet: &[u8], marks: &[u8], kind: u32, adapter: u32) {
 }
 
 // 33: the numbers of the rows that have the name.
-fn several(sheet: &[u8], name: &[u8], kind: u32, scope: u32) {
+fn several(sheet: &[u8], name: &[u8], kind: u32, scope: u32, primary: u8) {
     let mut marks = [0u8; 256];
     let adapter = one_adapter(sheet, name, kind, scope);
     sheets::mark_rows(sheet, asked(kind, adapter, 1), name, true, &mut marks);
@@ -179,7 +206,7 @@ fn several(sheet: &[u8], name: &[u8], kind: u32, scope: u32) {
         adapter,
         b"adapter %n0 has it under the numbers %M0: write ",
     );
-    let behind = needed(sheet, kind, scope, adapter);
+    let behind = needed(primary, kind, scope, adapter);
     numbers(sheet, &marks, kind, behind);
     out::bytes(b"; or rename one on the sheet");
 }
@@ -194,7 +221,7 @@ pub fn show(text: &[u8], sheet: &[u8], words: &[u32], f: Fault) {
     }
     if f.number == 33 {
         let scope = reference::adapter(text, words, f.count, f.token);
-        several(sheet, name, kind, scope);
+        several(sheet, name, kind, scope, f.call.primary);
         return;
     }
     elsewhere(sheet, name, kind);

@@ -13,6 +13,7 @@ mod listing;
 mod lookup;
 mod marks;
 mod near;
+mod options;
 mod out;
 mod parts;
 mod range;
@@ -20,6 +21,7 @@ mod reading;
 mod reference;
 mod rows;
 mod say;
+mod seen;
 mod sheet_fault;
 mod sheets;
 mod source;
@@ -37,8 +39,15 @@ fn usage() {
   rules tokens RULES        lists the words, numbers and signs of the rule
   rules help                prints this
 
-With --archive before its files, check reads as the archive loader does: a repeated argument of an input replaces the
-earlier one. Without it a repeat is refused.
+Options of check stand before its files:
+
+  --archive     reads as the archive loader does: a repeated argument of an input replaces the earlier one; otherwise a
+                repeat is refused
+  --party P     reads for party P, 0 to 255; otherwise for party 0. On a shared sheet the row party,A,P says that adapter
+                A is party P's, and an adapter without such a row is party 0's. What is on adapters of other parties is
+                as if it were not on the sheet
+  --primary A   takes adapter A, 0 to 255, where the rule names none; otherwise the one in the sheet's first line. It has
+                to be the party's
 
 check prints each trigger and each condition in plain words, or one refusal: its place, what stands there, what
 belongs there, and a way out. The last line begins with `accepted`, or with `refused` and the refusal's number; if the
@@ -54,10 +63,12 @@ fn bad_arguments(wrong: u32) {
     let table = b"_ there is no such command
 1 check takes two files: a rule and a name sheet
 2 tokens takes one file: a rule
-3 there is no such option; before the name of a file that begins with a dash write ./";
+3 there is no such option; before the name of a file that begins with a dash write ./
+4 behind --party, as behind --primary, stands a number from 0 to 255 without leading zeros
+5 an option is given twice";
     out::entry(table, wrong);
     out::bytes(
-        b"\nusage: rules check [--archive] RULES SHEET | rules tokens RULES | rules help\nrefused: bad arguments\n",
+        b"\nusage: rules check [--archive] [--party P] [--primary A] RULES SHEET | rules tokens RULES | rules help\nrefused: bad arguments\n",
     );
 }
 
@@ -67,35 +78,22 @@ fn is_help(command: &[u8]) -> bool {
         || text::part::same(command, b"-h")
 }
 
-// Does the word at an index begin with a dash? Of a long word its first byte is enough.
-fn is_option(i: usize) -> bool {
-    let mut first = [0u8; 1];
-    os::arg(i, &mut first);
-    first[0] == b'-'
-}
-
-// Is the word behind the command `--archive`?
-fn is_archive() -> bool {
-    let mut word = [0u8; 16];
-    let n = os::arg(2, &mut word);
-    text::part::same(text::part::part(&word, 0, n), b"--archive")
-}
-
-// Checks a rule, by the archive loader's call or the default one; its file and the sheet's, the last word, are at two indices.
-fn check(archive: bool, text_at: usize, sheet_at: usize, count: usize) {
-    if is_option(text_at) {
-        bad_arguments(3);
+// Checks a rule: behind the options stand its file and the sheet's, and nothing else.
+fn check(count: usize) {
+    let o = options::read(count);
+    if o.wrong != 0 {
+        bad_arguments(o.wrong);
         return;
     }
-    if sheet_at < count && count - sheet_at == 1 {
-        checking::run(archive, text_at, sheet_at);
+    if o.at < count && count - o.at == 2 {
+        checking::run(o, o.at, o.at + 1);
         return;
     }
     bad_arguments(1);
 }
 
 fn list(count: usize) {
-    if is_option(2) {
+    if options::is_option(2) {
         bad_arguments(3);
         return;
     }
@@ -120,11 +118,7 @@ fn run(command: &[u8], count: usize) {
         bad_arguments(0);
         return;
     }
-    if is_archive() {
-        check(true, 3, 4, count);
-        return;
-    }
-    check(false, 2, 3, count);
+    check(count);
 }
 
 fn main() {

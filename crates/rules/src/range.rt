@@ -22,7 +22,7 @@ fn is_in_range(text: &[u8], sheet: &[u8], f: Fault, behind: usize, number: &[u8]
     let mut answer = [0u32; 108];
     let at = put(&mut trial, text, f.at, behind, number);
     reading::read(
-        f.archive,
+        f.call,
         text::part::part(&trial, 0, at),
         sheet,
         &mut words,

@@ -1,18 +1,24 @@
 // The reader under test, called here alone: nothing in this program leans on what it ensures.
 
-// Reads a rule text with a sheet, by the archive loader's call or the default one; 0, or the number of the refusal. Answer has its nine
-// rows of twelve words.
-pub fn read(
-    archive: bool,
-    text: &[u8],
-    sheet: &[u8],
-    words: &mut [u32],
-    answer: &mut [u32],
-) -> u32 {
-    if archive {
-        return tergyosul::tergyosul_read_archive(text, sheet, words, answer);
+use sheet::Call;
+use sheet::Habit;
+
+// Reads a rule text with a sheet, by a call; 0, or the number of the refusal. Answer has its nine rows of twelve words.
+pub fn read(call: Call, text: &[u8], sheet: &[u8], words: &mut [u32], answer: &mut [u32]) -> u32 {
+    let habit = call.habit;
+    match habit {
+        Habit::Rule => {
+            tergyosul::tergyosul_read(text, sheet, call.party, call.primary, words, answer)
+        }
+        Habit::Archive => {
+            tergyosul::tergyosul_read_archive(text, sheet, call.party, call.primary, words, answer)
+        }
     }
-    tergyosul::tergyosul_read(text, sheet, words, answer)
+}
+
+// The sheet's own primary adapter; 0 where it names none.
+pub fn primary(sheet: &[u8]) -> u32 {
+    tergyosul::tergyosul_sheet_primary(sheet)
 }
 
 // Cuts a text into tokens, whose records go to the words; 0, or the number of the refusal. Word 3 of the answer is their count.

@@ -40,6 +40,18 @@ fn of_row(l: &[u8]) -> u32 {
     8
 }
 
+// What is wrong with a row that says whose an adapter is: one that is well formed is the second for its adapter.
+fn of_party(l: &[u8]) -> u32 {
+    let said = sheet::line::line_of(l);
+    match said {
+        Line::Party {
+            adapter: _,
+            party: _,
+        } => 11,
+        _ => 10,
+    }
+}
+
 // What is wrong with a line behind the first.
 fn of_line(l: &[u8]) -> u32 {
     if l.len() == 0 {
@@ -50,6 +62,9 @@ fn of_line(l: &[u8]) -> u32 {
     }
     if begins(l, b"adapter,") {
         return 6;
+    }
+    if begins(l, b"party,") {
+        return of_party(l);
     }
     if is_row(l) {
         return of_row(l);
@@ -72,7 +87,7 @@ fn wrong(l: &[u8], line: u32) -> u32 {
 }
 
 fn remedy(l: &[u8], line: u32) {
-    let table = b"_ a row begins with adapter, lamp, group, device or input and a comma
+    let table = b"_ a row begins with adapter, party, lamp, group, device or input and a comma
 1 a sheet has at most 512 rows behind its first line
 2 the line ends with CR LF: save the sheet with LF alone
 3 the first line is `primary,` and the number of the primary adapter, 0 to 255
@@ -81,7 +96,9 @@ fn remedy(l: &[u8], line: u32) {
 6 an adapter is a number from 0 to 255 without a leading zero or blanks
 7 a row has four fields: kind, adapter, number and name
 8 a name has no comma in it
-9 the adapter is 0 to 255, the number 0 to 63 (of a group 0 to 15), without leading zeros or blanks; the name has 1 to 48 bytes and no quote";
+9 the adapter is 0 to 255, the number 0 to 63 (of a group 0 to 15), without leading zeros or blanks; the name has 1 to 48 bytes and no quote
+10 behind `party,` stand an adapter and a party, each a number from 0 to 255 without leading zeros or blanks, and a comma between them
+11 an adapter has one party row, and a row above says already whose this adapter is: remove one of the two";
     out::entry(table, wrong(l, line));
 }
 

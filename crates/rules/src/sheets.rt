@@ -1,4 +1,4 @@
-// Lookups on a well-formed name sheet. A kind is 1 lamp, 2 group, 3 device, 4 input. A sheet has at most 513 lines.
+// Lookups on a well-formed name sheet, or on what a party sees of one. A kind is 1 lamp, 2 group, 3 device, 4 input. A sheet has at most 513 lines.
 use crate::marks;
 use crate::near;
 use crate::split;

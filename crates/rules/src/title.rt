@@ -3,6 +3,7 @@ use crate::fault::Fault;
 use crate::out;
 use crate::reference;
 use crate::say;
+use crate::seen;
 use crate::split;
 
 // 24 for a text that is compared with a variable, or for a name.
@@ -18,16 +19,45 @@ fn too_long(words: &[u32], f: Fault) {
     say::number(n, b"a name has at most 48 bytes, and this one has %n0");
 }
 
+// 31 for a party to which not all adapters belong.
+fn none_of_party(kind: u32, party: u8) {
+    let row = [kind, party as u32];
+    say::numbers(
+        &row,
+        b"none of the %K0 that the sheet has for party %n1 has this name",
+    );
+}
+
 // 31 to 34: a kind, an adapter and how many there are.
-fn of_name(text: &[u8], words: &[u32], f: Fault) {
+fn of_name(text: &[u8], sheet: &[u8], words: &[u32], f: Fault) {
     let table = b"_ %n2 %K0 on several adapters have this name
 31 none of the %K0 on the sheet has this name
 32 none of the %K0 of adapter %n1 has this name, but one of another adapter has it
 33 %n2 %K0 of one adapter have this name";
     let kind = reference::kind(text, words, f.token);
+    if f.number == 31 && seen::is_shared(sheet, f.call.party) {
+        none_of_party(kind, f.call.party);
+        return;
+    }
     let adapter = reference::adapter(text, words, f.count, f.token);
     let row = [kind, adapter, f.detail];
     say::numbers(&row, split::numbered(table, f.number));
+}
+
+// 25 and 53, where the adapter is not the party's.
+fn not_own(adapter: u32, party: u8) {
+    let row = [adapter, party as u32];
+    say::numbers(&row, b"adapter %n0 is not party %n1's");
+}
+
+// 25 for an adapter of the party's, which only lacks a row, or for another.
+fn not_listed(sheet: &[u8], words: &[u32], f: Fault) {
+    let adapter = tokens::record::number(words, f.token);
+    if seen::is_own(sheet, f.call.party, adapter) {
+        out::bytes(b"this adapter is not listed on the sheet");
+        return;
+    }
+    not_own(adapter, f.call.party);
 }
 
 // By the number of the refusal.
@@ -54,7 +84,6 @@ fn of_form(number: u32) {
 21 this word is none of the choices
 22 this number is out of range
 23 this name is empty
-25 this adapter is not listed on the sheet
 26 this is a third argument without a name
 27 `group` stands together with `dev` or `inst`
 28 the input has neither `dev` nor `group`
@@ -71,7 +100,28 @@ fn of_form(number: u32) {
     out::entry(table, number);
 }
 
-pub fn show(text: &[u8], words: &[u32], f: Fault) {
+// 25, 31 to 34 and 53, which are about what the party sees of the sheet.
+fn of_sheet(text: &[u8], sheet: &[u8], words: &[u32], f: Fault) {
+    if f.number == 25 {
+        not_listed(sheet, words, f);
+        return;
+    }
+    if f.number == 53 {
+        not_own(f.call.primary as u32, f.call.party);
+        out::bytes(b", so it cannot be its primary adapter");
+        return;
+    }
+    of_name(text, sheet, words, f);
+}
+
+fn is_of_sheet(number: u32) -> bool {
+    if number == 25 || number == 53 {
+        return true;
+    }
+    31 <= number && number <= 34
+}
+
+pub fn show(text: &[u8], sheet: &[u8], words: &[u32], f: Fault) {
     if f.number < 20 {
         of_uncut(f.number);
         return;
@@ -80,8 +130,8 @@ pub fn show(text: &[u8], words: &[u32], f: Fault) {
         too_long(words, f);
         return;
     }
-    if 31 <= f.number && f.number <= 34 {
-        of_name(text, words, f);
+    if is_of_sheet(f.number) {
+        of_sheet(text, sheet, words, f);
         return;
     }
     if f.number == 20 && f.token == f.count {

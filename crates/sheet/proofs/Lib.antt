@@ -1,6 +1,10 @@
+pub mod AdapterLaws
 mod PlainLaws
 pub mod LineLaws
 pub mod ListedLaws
 pub mod ResolveLaws
 pub mod SkipLaws
+pub mod ViewLaws
+pub mod PartyLaws
 pub mod RangeLaws
+pub mod SurveyLaws

@@ -16,7 +16,7 @@ use Rattle.text.specs.Choice.{pick}
 use Rattle.text.proofs.Tests.{steps, eq-told-yes, eq-told-no}
 use Rattle.text.specs.Ascii.{isDigit}
 use Rattle.text.specs.Find.{firstAt}
-use Rattle.sheet.specs.Line.{field, rest, hasComma, digitsOn, numeral, checkedRow, readRow, primaryOf, adapterOf, lineBy, nameOf}
+use Rattle.sheet.specs.Line.{field, rest, hasComma, digitsOn, numeral, checkedRow, readRow, primaryOf, adapterOf, partyBy, lineBy, nameOf}
 use Rattle.sheet.specs.declared.line.Line.{Line}
 use Rattle.sheet.specs.declared.line.Line.the-variants.{Bad}
 use Rattle.text.proofs.FindLaws.{first-is}
@@ -123,6 +123,10 @@ by-primary n d e = rw (← d) e
 pub by-adapter : (n : ℕ) {a : ℕ} {x : Line} → a ≡ n → x ≡ adapterOf a → x ≡ adapterOf n
 by-adapter n d e = rw (← d) e
 
+pub by-party : (l : List ℕ) {f g : List ℕ} {a p : ℕ} {x : Line} → f ≡ field l → a ≡ numeral f → g ≡ rest l → p ≡ numeral g → x ≡ partyBy a p →
+    x ≡ partyBy (numeral (field l)) (numeral (rest l))
+by-party l f a g p e = rw (← f, ← a, ← g, ← p) e
+
 pub by-kind : (kind : ℕ) (l : List ℕ) {k : ℕ} {x : Line} → k ≡ kind → x ≡ readRow k l → x ≡ readRow kind l
 by-kind kind l d e = rw (← d) e
 
@@ -166,6 +170,7 @@ pub ruleset reading = (
   le-told-no,
   by-primary,
   by-adapter,
+  by-party,
   by-kind,
   by-field,
   row-yes,

@@ -11,11 +11,7 @@ use Rattle.sheet.specs.Line.{lineOf}
 use Rattle.sheet.specs.Sheet.{isListing, lists}
 use Rattle.sheet.specs.Listed.{Listed, here, later}
 use Rattle.sheet.specs.declared.line.Line.{Line}
-use Rattle.sheet.specs.declared.line.Line.the-variants.{Primary, Adapter, Row, Bad}
-
--- a line that the code takes apart: it was v
-pub by-listing : (a : ℕ) (l : Line) {v : Line} {x : Bool} → l ≡ v → x ≡ isListing a v → x ≡ isListing a l
-by-listing a l was h = rw was h
+use Rattle.sheet.specs.declared.line.Line.the-variants.{Primary, Adapter, Party, Row, Bad}
 
 never : {A : Type 0} → false ≡ true → A
 never h = absurd (let z : _≡_ {A = ℕ} 0 1 = cc in omega arith)
@@ -29,6 +25,7 @@ module _ (a : ℕ) where
   unfolding isListing
   own-line (Primary b) h = never h
   own-line (Adapter b) h = ap Adapter (eqb-true b a h)
+  own-line (Party b party) h = never h
   own-line (Row kind adapter number) h = never h
   own-line Bad h = never h
 

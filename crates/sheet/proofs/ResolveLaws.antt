@@ -3,26 +3,27 @@
 use Prim.Native.Nat.{ℕ, suc, _+_, _<_, _≤_}
 use native.Mathlib.Omega.{arith}
 use mathlib.Core.Path.{_≡_, _∙_, refl, ap, sym}
-use mathlib.Core.Bool.{Bool, true, false}
+use mathlib.Core.Bool.{Bool, true, false, not}
 use mathlib.Core.List.{List, [], _∷_, _++_, append-nil, append-assoc}
 use lib.ListN.{length, drop, length-append}
 use lib.Dec.{ltb, eqb}
-use borrow.Author.Tests.{ltb-false, le-ltb, eq-eqb, ne-eqb, eqb-true}
+use borrow.Author.Tests.{ltb-false, le-ltb, eq-eqb, ne-eqb, eqb-true, not-true, not-false}
 use Rattle.text.specs.Choice.{pick}
 use Rattle.text.specs.Part.{partOf, sameBytes, Same}
 use Rattle.text.specs.Place.{counted}
 use Rattle.text.proofs.PlaceRules.{count-on}
-use Rattle.text.proofs.Tests.{picked, both, steps}
+use Rattle.text.proofs.Tests.{picked, pick-same, both, told-yes, told-no, steps}
 use Rattle.text.proofs.PartLaws.{same-refl, same-eq}
 use Rattle.text.proofs.PlaceRules.{count-on}
 use Rattle.sheet.specs.Line.{lineOf, nameOf}
 use Rattle.sheet.specs.Sheet.{lines, lineEnd, Entry, entries, entryBy}
+use Rattle.sheet.specs.Party.{entriesOn}
 use Rattle.sheet.specs.Resolve.{isCandidate, candidates, isIn, inScope, elsewhere, noneOf, chosen, pickNamed}
 use Rattle.sheet.specs.Tally.{scopedTally, otherTally, tallied, tally, lineTallyBy, lineTally, noTally, foundBy}
 use Rattle.sheet.specs.Picks.{In-scope, None, none, none-past, Picks, past, here}
 use Rattle.text.proofs.SplitLaws.{split-on, split-none}
 use Rattle.sheet.specs.declared.line.Line.{Line}
-use Rattle.sheet.specs.declared.line.Line.the-variants.{Primary, Adapter, Row, Bad}
+use Rattle.sheet.specs.declared.line.Line.the-variants.{Primary, Adapter, Party, Row, Bad}
 use Rattle.sheet.specs.declared.resolve.Scope.{Scope}
 use Rattle.sheet.specs.declared.resolve.Scope.the-variants.{Any, On}
 use Rattle.sheet.specs.declared.resolve.Found.the-variants.{One}
@@ -115,14 +116,28 @@ two-tests : {A : Type 0} (x y : Bool) (a b : A) → pick (pick x y false) a b �
 two-tests true y a b = refl
 two-tests false y a b = refl
 
-tally-entry : (kind : ℕ) (name : List ℕ) (scope : Scope) (t : Tally) (own : List ℕ) (es : List Entry) (l : Line) →
-    tally kind name scope t (entryBy l own es) ≡ tally kind name scope (lineTallyBy kind name scope t own l) es
+-- a row that stands among the others or not; a row that does not adds nothing
+tally-row : (kind : ℕ) (name : List ℕ) (scope : Scope) (t : Tally) (e : Entry) (es : List Entry) (there : Bool) →
+    tally kind name scope t (pick there (e ∷ es) es)
+    ≡ tally kind name scope
+    (pick (eqb (e .kind) kind)
+    (pick there (pick (sameBytes (e .name) name) (tallied scope t (e .adapter) (e .number)) t) t) t) es
 unfolding tally isCandidate
-tally-entry kind name scope t own es (Row k adapter number) =
-    ap (λ (u : Tally). tally kind name scope u es) (two-tests (eqb k kind) (sameBytes own name) (tallied scope t adapter number) t)
-tally-entry kind name scope t own es (Primary a) = refl
-tally-entry kind name scope t own es (Adapter a) = refl
-tally-entry kind name scope t own es Bad = refl
+tally-row kind name scope t e es true =
+    ap (λ (u : Tally). tally kind name scope u es)
+    (two-tests (eqb (e .kind) kind) (sameBytes (e .name) name) (tallied scope t (e .adapter) (e .number)) t)
+tally-row kind name scope t e es false = ap (λ (u : Tally). tally kind name scope u es) (sym (pick-same (eqb (e .kind) kind) t))
+
+tally-entry : (own : ℕ → Bool) (kind : ℕ) (name : List ℕ) (scope : Scope) (t : Tally) (written : List ℕ) (es : List Entry) (l : Line) →
+    tally kind name scope t (entriesOn own (entryBy l written es))
+    ≡ tally kind name scope (lineTallyBy own kind name scope t written l) (entriesOn own es)
+unfolding entriesOn
+tally-entry own kind name scope t written es (Row k adapter number) =
+    tally-row kind name scope t (record { kind = k; adapter = adapter; number = number; name = written }) (entriesOn own es) (own adapter)
+tally-entry own kind name scope t written es (Primary a) = refl
+tally-entry own kind name scope t written es (Adapter a) = refl
+tally-entry own kind name scope t written es (Party a party) = refl
+tally-entry own kind name scope t written es Bad = refl
 
 -- what the tests of a row say
 is-in : (scope : Scope) (b : ℕ) → ((a : ℕ) → scope ≡ On a → b ≡ a) → isIn scope b ≡ true
@@ -184,20 +199,22 @@ module _ (kind : ℕ) (name : List ℕ) (scope : Scope) where
   unfolding pickNamed counted
   found-tally es = ap foundBy (added es [] []) ∙ found-seen (candidates kind name es) (rows es)
 
-  -- a line changes a tally as its entries do
-  pub tally-line : (t : Tally) (l : List ℕ) (ls : List (List ℕ)) →
-      tally kind name scope t (entries (l ∷ ls)) ≡ tally kind name scope (lineTally kind name scope t l) (entries ls)
+  -- a line changes a tally as its entries do, if they are on these adapters
+  pub tally-line : (own : ℕ → Bool) (t : Tally) (l : List ℕ) (ls : List (List ℕ)) →
+      tally kind name scope t (entriesOn own (entries (l ∷ ls)))
+      ≡ tally kind name scope (lineTally own kind name scope t l) (entriesOn own (entries ls))
   unfolding entries lineTally
-  tally-line t l ls = tally-entry kind name scope t (nameOf l) (entries ls) (lineOf l)
+  tally-line own t l ls = tally-entry own kind name scope t (nameOf l) (entries ls) (lineOf l)
 
   -- the same at an offset of a sheet: t before the line w there, which goes up to end, and u behind it
-  module _ (s : List ℕ) (at : ℕ) (t : Tally) {x : Tally} (i : tally kind name scope t (entries (lines (drop at s))) ≡ x) where
+  module _ (own : ℕ → Bool) (s : List ℕ) (at : ℕ) (t : Tally) {x : Tally}
+      (i : tally kind name scope t (entriesOn own (entries (lines (drop at s)))) ≡ x) where
     pub tally-on : {end : ℕ} {w : List ℕ} {u : Tally} → at < length s → end ≡ lineEnd s at → w ≡ partOf s at end →
-        u ≡ lineTally kind name scope t w → tally kind name scope u (entries (lines (drop (end + 1) s))) ≡ x
+        u ≡ lineTally own kind name scope t w → tally kind name scope u (entriesOn own (entries (lines (drop (end + 1) s)))) ≡ x
     tally-on h e p n = rw (n, p, e) (rw (split-on 0x0A s at h, tally-line) at i)
 
     pub tally-end : length s ≤ at → t ≡ x
-    unfolding entries tally
+    unfolding entries entriesOn tally
     tally-end h = rw (split-none 0x0A s at h) at i
 
   -- a row is in scope by its test exactly if it is by its facts
@@ -279,18 +296,25 @@ unfolding isIn
 in-on scope adapter e = rw e
 
 -- a line that the code takes apart: a callee answered a, which was v; and w, which is the line's name
-pub by-line : (kind : ℕ) (name : List ℕ) (scope : Scope) (t : Tally) (l : List ℕ) {a v : Line} {x : Tally} →
-    a ≡ lineOf l → a ≡ v → x ≡ lineTallyBy kind name scope t (nameOf l) v → x ≡ lineTally kind name scope t l
+pub by-line : (own : ℕ → Bool) (kind : ℕ) (name : List ℕ) (scope : Scope) (t : Tally) (l : List ℕ) {a v : Line} {x : Tally} →
+    a ≡ lineOf l → a ≡ v → x ≡ lineTallyBy own kind name scope t (nameOf l) v → x ≡ lineTally own kind name scope t l
 unfolding lineTally
-by-line kind name scope t l asked was h = rw (sym asked ∙ was) h
+by-line own kind name scope t l asked was h = rw (sym asked ∙ was) h
 
-pub name-yes : {A : Type 0} (own name : List ℕ) (a b : A) {w : List ℕ} {r : Bool} {x : A} → Same w name r → w ≡ own → r ≡ true → x ≡ a →
-    x ≡ pick (sameBytes own name) a b
-name-yes own name a b s e h g = rw (← e, ← (s .equals), h) g
+pub name-yes : {A : Type 0} (written name : List ℕ) (a b : A) {w : List ℕ} {r : Bool} {x : A} →
+    Same w name r → w ≡ written → r ≡ true → x ≡ a → x ≡ pick (sameBytes written name) a b
+name-yes written name a b s e h g = rw (← e, ← (s .equals), h) g
 
-pub name-no : {A : Type 0} (own name : List ℕ) (a b : A) {w : List ℕ} {r : Bool} {x : A} → Same w name r → w ≡ own → r ≡ false → x ≡ b →
-    x ≡ pick (sameBytes own name) a b
-name-no own name a b s e h g = rw (← e, ← (s .equals), h) g
+pub name-no : {A : Type 0} (written name : List ℕ) (a b : A) {w : List ℕ} {r : Bool} {x : A} →
+    Same w name r → w ≡ written → r ≡ false → x ≡ b → x ≡ pick (sameBytes written name) a b
+name-no written name a b s e h g = rw (← e, ← (s .equals), h) g
+
+-- a callee's answer r of which the code asks whether it is no
+pub not-told-no : {A : Type 0} {r : Bool} (t : Bool) (a b : A) {x : A} → r ≡ t → not r ≡ true → x ≡ b → x ≡ pick t a b
+not-told-no {r = r} t a b d h e = told-no t a b d (not-true r h) e
+
+pub not-told-yes : {A : Type 0} {r : Bool} (t : Bool) (a b : A) {x : A} → r ≡ t → not r ≡ false → x ≡ a → x ≡ pick t a b
+not-told-yes {r = r} t a b d h e = told-yes t a b d (not-false r h) e
 
 -- closes what is left of a function that takes a scope or a line apart
-pub ruleset lookups = (in-on, by-line, name-yes, name-no, steps)
+pub ruleset lookups = (in-on, by-line, name-yes, name-no, not-told-no, not-told-yes, steps)

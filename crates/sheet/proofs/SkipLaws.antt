@@ -17,13 +17,13 @@ use Rattle.text.specs.Part.{partOf, sameBytes}
 use Rattle.text.proofs.Tests.{picked}
 use Rattle.text.proofs.PartLaws.{same-eq}
 use Rattle.text.specs.Find.{firstAt}
-use Rattle.model.specs.Limits.{lastGroup, lastShortAddress, lastAdapter}
+use Rattle.model.specs.Limits.{lastGroup, lastShortAddress, lastAdapter, lastParty}
 use Rattle.sheet.specs.Kind.{noKind, groupKind, kindOf, mostOf}
-use Rattle.sheet.specs.Line.{field, rest, hasComma, numeral, isName, checkedRow, readRow, primaryOf, adapterOf, lineBy, lineOf, nameOf}
+use Rattle.sheet.specs.Line.{field, rest, hasComma, numeral, isName, checkedRow, readRow, primaryOf, adapterOf, partyBy, partyOf, lineBy, lineOf, nameOf}
 use Rattle.sheet.specs.Sheet.{lineEnd}
 use Rattle.sheet.specs.Tally.{lineTallyBy, lineTally, Passed}
 use Rattle.sheet.specs.declared.line.Line.{Line}
-use Rattle.sheet.specs.declared.line.Line.the-variants.{Primary, Adapter, Row, Bad}
+use Rattle.sheet.specs.declared.line.Line.the-variants.{Primary, Adapter, Party, Row, Bad}
 use Rattle.sheet.specs.declared.resolve.Scope.{Scope}
 use Rattle.sheet.specs.declared.resolve.Tally.{Tally}
 use Rattle.text.proofs.FindLaws.{index-found, first-within, first-from, first-past, first-same}
@@ -57,6 +57,7 @@ abbrev IfRow : Type 0 → Line → Type 0
 IfRow A (Row kind adapter number) = A
 IfRow A (Primary a) = Unit {0}
 IfRow A (Adapter a) = Unit {0}
+IfRow A (Party a party) = Unit {0}
 IfRow A Bad = Unit {0}
 
 -- a kind's word has four bytes or more, a number one
@@ -105,6 +106,14 @@ row-parted A kind l f =
     (behind-field 1 l first (numeral-long _ lastAdapter (omega arith) adapter))
     (behind-field 1 (rest l) second (numeral-long _ (mostOf kind) (most-small kind) number))))))))
 
+party-parted : (A : Type 0) (l : List ℕ) → IfRow A (partyOf l)
+unfolding partyOf partyBy
+party-parted A l =
+    guarded A (hasComma l) _
+    (λ _.
+    guarded A (leb (numeral (field l)) lastAdapter) _
+    (λ _. guarded A (leb (numeral (rest l)) lastParty) _ (λ _. tt)))
+
 line-parted : (l : List ℕ) → IfRow (Behind 8 l (nameOf l)) (lineOf l)
 unfolding lineOf lineBy nameOf primaryOf adapterOf
 line-parted l =
@@ -115,26 +124,33 @@ line-parted l =
     (λ _.
     picked (IfRow A) (sameBytes (field l) (ascii "adapter")) (λ _. guarded A (leb (numeral (rest l)) lastAdapter) _ (λ _. tt))
     (λ _.
+    picked (IfRow A) (sameBytes (field l) (ascii "party")) (λ _. party-parted A (rest l))
+    (λ _.
     picked (IfRow A) (eqb (kindOf (field l)) noKind) (λ _. tt)
     (λ some.
     row-parted A (kindOf (field l)) (rest l)
-    (λ b. behind-both (behind-field 4 l comma (kind-long _ (eqb-false _ _ some))) b)))))
+    (λ b. behind-both (behind-field 4 l comma (kind-long _ (eqb-false _ _ some))) b))))))
 
 -- and a line changes no tally unless the name stands in it so
-kept-by : (kind : ℕ) (name : List ℕ) (scope : Scope) (t : Tally) (l own : List ℕ) (x : Line) → IfRow (Behind 8 l own) x →
-    (Behind 8 l name → ⊥) → t ≡ lineTallyBy kind name scope t own x
-kept-by kind name scope t l own (Row k adapter number) b n =
+kept-by : (own : ℕ → Bool) (kind : ℕ) (name : List ℕ) (scope : Scope) (t : Tally) (l written : List ℕ) (x : Line) →
+    IfRow (Behind 8 l written) x → (Behind 8 l name → ⊥) → t ≡ lineTallyBy own kind name scope t written x
+kept-by own kind name scope t l written (Row k adapter number) b n =
     let P : Tally → Type 0 = λ u. t ≡ u in
     picked P (eqb k kind)
-    (λ _. picked P (sameBytes own name) (λ e. absurd (n (rw (same-eq own name e) at b))) (λ _. refl))
+    (λ _.
+    picked P (own adapter)
+    (λ _. picked P (sameBytes written name) (λ e. absurd (n (rw (same-eq written name e) at b))) (λ _. refl))
+    (λ _. refl))
     (λ _. refl)
-kept-by kind name scope t l own (Primary a) b n = refl
-kept-by kind name scope t l own (Adapter a) b n = refl
-kept-by kind name scope t l own Bad b n = refl
+kept-by own kind name scope t l written (Primary a) b n = refl
+kept-by own kind name scope t l written (Adapter a) b n = refl
+kept-by own kind name scope t l written (Party a party) b n = refl
+kept-by own kind name scope t l written Bad b n = refl
 
-kept : (kind : ℕ) (name : List ℕ) (scope : Scope) (t : Tally) (l : List ℕ) → (Behind 8 l name → ⊥) → t ≡ lineTally kind name scope t l
+kept : (own : ℕ → Bool) (kind : ℕ) (name : List ℕ) (scope : Scope) (t : Tally) (l : List ℕ) → (Behind 8 l name → ⊥) →
+    t ≡ lineTally own kind name scope t l
 unfolding lineTally
-kept kind name scope t l n = kept-by kind name scope t l (nameOf l) (lineOf l) (line-parted l) n
+kept own kind name scope t l n = kept-by own kind name scope t l (nameOf l) (lineOf l) (line-parted l) n
 
 -- a comma and the name stand before the offset end
 abbrev pub Ends : List ℕ → List ℕ → ℕ → Type 0
@@ -170,25 +186,25 @@ named-ends name s at end h b =
     )
 
 -- A, whichever of two numbers is the greater
-by-order : {A : Type 0} (m n : ℕ) → (m < n → A) → (n ≤ m → A) → A
+pub by-order : {A : Type 0} (m n : ℕ) → (m < n → A) → (n ≤ m → A) → A
 by-order {A} m n f g = picked (λ (_ : ℕ). A) (ltb m n) {a = 0} {b = 0} (λ e. f (ltb-true m n e)) (λ e. g (ltb-false m n e))
 
 module _ (name s : List ℕ) where
   passed-on : (from at to : ℕ) → Passed name s from at → Passed name s at to → Passed name s from to
-  passed-on from at to p q kind scope t = q kind scope t ∙ p kind scope t
+  passed-on from at to p q own kind scope t = q own kind scope t ∙ p own kind scope t
 
   -- past the end there is no line
   passed-none : (from at : ℕ) → length s ≤ from → length s ≤ at → Passed name s from at
-  passed-none from at h k kind scope t = rw (split-none 0x0A s from h, split-none 0x0A s at k)
+  passed-none from at h k own kind scope t = rw (split-none 0x0A s from h, split-none 0x0A s at k)
 
   -- one line
   passed-line : (at : ℕ) {end : ℕ} → end ≡ lineEnd s at → (at + (length name + 9) ≤ end → Ends name s end → ⊥) → Passed name s at (end + 1)
   passed-line at {end} e n =
       let within = first-within 0x0A s at in
       by-order at (length s)
-      (λ h kind scope t.
-      tally-on kind name scope s at t refl h e refl
-      (kept kind name scope t (partOf s at end)
+      (λ h own kind scope t.
+      tally-on kind name scope own s at t refl h e refl
+      (kept own kind name scope t (partOf s at end)
       (λ b. let w = named-ends name s at end (omega arith) b in n (w .0) (w .1))))
       (λ past.
       let last = first-past 0x0A s at past in

@@ -2,6 +2,9 @@ pub mod Kind
 pub mod Line
 pub mod Sheet
 pub mod Listed
+pub mod Party
+pub mod Adapters
+pub mod Survey
 pub mod View
 pub mod Resolve
 pub mod Tally

@@ -1,4 +1,4 @@
--- What a line of the name sheet says (document 01, "The name sheet"): `primary,A`, `adapter,A` or `K,A,N,name`.
+-- What a line of the name sheet says (document 01, "The name sheet"): `primary,A`, `adapter,A` or `K,A,N,name`; and, by document 02, §6, `party,A,P`.
 use Prim.Native.Nat.{ℕ, _+_, _-_, _*_}
 use mathlib.Core.List.{List, [], _∷_}
 use mathlib.Core.Bool.{Bool, true, false}
@@ -9,10 +9,10 @@ use Rattle.text.specs.Choice.{pick, within}
 use Rattle.text.specs.Literal.{ascii}
 use Rattle.text.specs.Part.{sameBytes}
 use Rattle.text.specs.Ascii.{isDigit}
-use Rattle.model.specs.Limits.{lastAdapter, longestName}
+use Rattle.model.specs.Limits.{lastAdapter, lastParty, longestName}
 use Rattle.sheet.specs.Kind.{noKind, kindOf, mostOf}
 use Rattle.sheet.specs.declared.line.Line.{Line}
-use Rattle.sheet.specs.declared.line.Line.the-variants.{Primary, Adapter, Row, Bad}
+use Rattle.sheet.specs.declared.line.Line.the-variants.{Primary, Adapter, Party, Row, Bad}
 
 -- "Fields are parted by commas": a line's first field, what stands behind its comma, and whether there is one
 unfoldable pub field : List ℕ → List ℕ
@@ -62,12 +62,20 @@ primaryOf a = pick (leb a lastAdapter) (Primary a) Bad
 unfoldable pub adapterOf : ℕ → Line
 adapterOf a = pick (leb a lastAdapter) (Adapter a) Bad
 
+-- document 02, §6: "Rows `party,A,P` (P 0 to 255)"
+unfoldable pub partyBy : ℕ → ℕ → Line
+partyBy a p = pick (leb a lastAdapter) (pick (leb p lastParty) (Party a p) Bad) Bad
+
+unfoldable pub partyOf : List ℕ → Line
+partyOf l = pick (hasComma l) (partyBy (numeral (field l)) (numeral (rest l))) Bad
+
 -- a line by its first field w and what is behind it
 unfoldable pub lineBy : List ℕ → List ℕ → Line
 lineBy w l =
     pick (sameBytes w (ascii "primary")) (primaryOf (numeral l))
     (pick (sameBytes w (ascii "adapter")) (adapterOf (numeral l))
-    (pick (eqb (kindOf w) noKind) Bad (readRow (kindOf w) l)))
+    (pick (sameBytes w (ascii "party")) (partyOf l)
+    (pick (eqb (kindOf w) noKind) Bad (readRow (kindOf w) l))))
 
 unfoldable pub lineOf : List ℕ → Line
 lineOf l = pick (hasComma l) (lineBy (field l) (rest l)) Bad

@@ -10,9 +10,10 @@ use Rattle.text.specs.Part.{sameBytes}
 use Rattle.text.specs.Place.{counted}
 use Rattle.sheet.specs.Line.{lineOf, nameOf}
 use Rattle.sheet.specs.Sheet.{Entry, lines, entries}
+use Rattle.sheet.specs.Party.{entriesOn}
 use Rattle.sheet.specs.Resolve.{isCandidate, isIn}
 use Rattle.sheet.specs.declared.line.Line.{Line}
-use Rattle.sheet.specs.declared.line.Line.the-variants.{Primary, Adapter, Row, Bad}
+use Rattle.sheet.specs.declared.line.Line.the-variants.{Primary, Adapter, Party, Row, Bad}
 use Rattle.sheet.specs.declared.resolve.Scope.{Scope}
 use Rattle.sheet.specs.declared.resolve.Found.{Found}
 use Rattle.sheet.specs.declared.resolve.Found.the-variants.{One, Refused}
@@ -49,16 +50,17 @@ tally kind name scope t [] = t
 tally kind name scope t (e ∷ es) =
     tally kind name scope (pick (isCandidate kind name e) (tallied scope t (e .adapter) (e .number)) t) es
 
--- the same for one line: it is a candidate, or it changes nothing
-abbrev pub lineTallyBy : ℕ → List ℕ → Scope → Tally → List ℕ → Line → Tally
-lineTallyBy kind name scope t own (Row k adapter number) =
-    pick (eqb k kind) (pick (sameBytes own name) (tallied scope t adapter number) t) t
-lineTallyBy kind name scope t own (Primary a) = t
-lineTallyBy kind name scope t own (Adapter a) = t
-lineTallyBy kind name scope t own Bad = t
+-- the same for one line: it is a candidate on one of the party's own adapters, or it changes nothing
+abbrev pub lineTallyBy : (ℕ → Bool) → ℕ → List ℕ → Scope → Tally → List ℕ → Line → Tally
+lineTallyBy own kind name scope t written (Row k adapter number) =
+    pick (eqb k kind) (pick (own adapter) (pick (sameBytes written name) (tallied scope t adapter number) t) t) t
+lineTallyBy own kind name scope t written (Primary a) = t
+lineTallyBy own kind name scope t written (Adapter a) = t
+lineTallyBy own kind name scope t written (Party a party) = t
+lineTallyBy own kind name scope t written Bad = t
 
-unfoldable pub lineTally : ℕ → List ℕ → Scope → Tally → List ℕ → Tally
-lineTally kind name scope t l = lineTallyBy kind name scope t (nameOf l) (lineOf l)
+unfoldable pub lineTally : (ℕ → Bool) → ℕ → List ℕ → Scope → Tally → List ℕ → Tally
+lineTally own kind name scope t l = lineTallyBy own kind name scope t (nameOf l) (lineOf l)
 
 abbrev pub noTally : Tally
 noTally = record { known = false; first = 0; count = 0; adapter = 0; number = 0; spans = false }
@@ -66,8 +68,8 @@ noTally = record { known = false; first = 0; count = 0; adapter = 0; number = 0;
 -- no row between two offsets has the name: those from both on come to the same
 abbrev pub Passed : List ℕ → List ℕ → ℕ → ℕ → Type 0
 Passed name s from at =
-    (kind : ℕ) (scope : Scope) (t : Tally) →
-    tally kind name scope t (entries (lines (drop at s))) ≡ tally kind name scope t (entries (lines (drop from s)))
+    (own : ℕ → Bool) (kind : ℕ) (scope : Scope) (t : Tally) →
+    tally kind name scope t (entriesOn own (entries (lines (drop at s)))) ≡ tally kind name scope t (entriesOn own (entries (lines (drop from s))))
 
 unfoldable pub foundBy : Tally → Found
 foundBy t =

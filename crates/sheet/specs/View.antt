@@ -1,9 +1,13 @@
--- What a call sees of its sheet and of its settings. The definitions and the grammar above this layer look at nothing else.
+-- What a call sees of its sheet and of its own settings. The definitions and the grammar above this layer look at nothing else.
 use Prim.Native.Nat.{ℕ}
 use mathlib.Core.List.{List}
 use mathlib.Core.Bool.{Bool, true, false}
-use Rattle.sheet.specs.Sheet.{lines, Entry, entries, lists, primaryLine}
+use Rattle.text.specs.Choice.{pick}
+use Rattle.sheet.specs.Sheet.{lines, Entry, entries, lists}
+use Rattle.sheet.specs.Party.{owns, entriesOn}
+use Rattle.sheet.specs.Adapters.{has, packed}
 use Rattle.sheet.specs.declared.Habit.{Habit}
+use Rattle.sheet.specs.declared.Call.{Call}
 use Rattle.sheet.specs.declared.Settings.{Settings}
 
 -- the primary adapter, which adapters are listed, the rows with names, and whether an argument of `input(` may be repeated
@@ -13,20 +17,42 @@ pub record View : Type 0 where
   pub rows : List Entry
   pub repeats : Bool
 
--- document 02: "By default a repeat is now turned away; the archive loader keeps a call with the old habit, unchanged."
+-- document 02, §11: "By default a repeat is now turned away; the archive loader keeps a call with the old habit, unchanged."
 unfoldable pub mayRepeat : Habit → Bool
 mayRepeat Habit.Rule = false
 mayRepeat Habit.Archive = true
 
--- what a call sets: its habit is its own, the primary adapter is the sheet's
-unfoldable pub settingsOf : Habit → List ℕ → Settings
-settingsOf habit s = record { primary = primaryLine (lines s); habit = habit }
+-- document 02, §6: "A call names its party and its own primary adapter, which stands in for the sheet's." "Only rows on the party's adapters are
+-- candidates, and another's adapter counts as not listed."
+unfoldable pub seen : Call → List ℕ → View
+seen call s =
+    record {
+      primary = call .primary;
+      listed = λ a. pick (owns (call .party) (lines s) a) (lists a (lines s)) false;
+      rows = entriesOn (owns (call .party) (lines s)) (entries (lines s));
+      repeats = mayRepeat (call .habit);
+    }
+
+-- whether the call's primary adapter is its party's (53)
+unfoldable pub ownPrimary : Call → List ℕ → Bool
+ownPrimary call s = owns (call .party) (lines s) (call .primary)
+
+-- The code's way to it: which adapters are the party's, and which are listed, is found once and kept. Nothing from here on need be believed:
+-- `seen-settings` shows that it comes to the same.
+unfoldable pub settingsOf : Call → List ℕ → Settings
+settingsOf call s =
+    record {
+      primary = seen call s .primary;
+      habit = call .habit;
+      own = packed (owns (call .party) (lines s));
+      listed = packed (λ a. lists a (lines s));
+    }
 
 unfoldable pub viewOf : Settings → List ℕ → View
 viewOf settings s =
     record {
       primary = settings .primary;
-      listed = λ a. lists a (lines s);
-      rows = entries (lines s);
+      listed = λ a. pick (has (settings .own) a) (has (settings .listed) a) false;
+      rows = entriesOn (has (settings .own)) (entries (lines s));
       repeats = mayRepeat (settings .habit);
     }

@@ -7,13 +7,17 @@ ghost use Prim.Native.Nat.{ℕ, _+_, _-_};
 ghost use lib.ListN.{length};
 ghost use Rattle.text.specs.Block.{block};
 ghost use Rattle.bytes.specs.Bytes.{indexOf};
-ghost use Rattle.sheet.specs.Line.{rest, numeral, isMark, plain, isName, digitsOn, checkedRow, readRow, primaryOf, adapterOf, lineBy, lineOf, nameOf};
+ghost use Rattle.sheet.specs.Line.{rest, numeral, isMark, plain, isName, digitsOn, checkedRow, readRow, primaryOf, adapterOf, partyBy, partyOf, lineBy, lineOf, nameOf};
 
-// What a line says: the primary adapter, a listed adapter, a row of a kind with its adapter and number, or nothing that
-// a sheet may say.
+// What a line says: the primary adapter, a listed adapter, whose an adapter is, a row of a kind with its adapter and number, or nothing
+// that a sheet may say.
 pub enum Line {
     Primary(u32),
     Adapter(u32),
+    Party {
+        adapter: u32,
+        party: u32,
+    },
     Row {
         kind: u32,
         adapter: u32,
@@ -230,6 +234,9 @@ fn line_by(w: &[u8], l: &[u8]) -> Line
     if text::part::same(w, b"adapter") {
         return adapter_of(decimal(l));
     }
+    if text::part::same(w, b"party") {
+        return party_of(l);
+    }
     let kind = kind::kind_of(w);
     if kind == kind::NONE {
         return Line::Bad;
@@ -255,6 +262,29 @@ fn adapter_of(a: u32) -> Line
     } else {
         Line::Bad
     }
+}
+
+fn party_by(adapter: u32, party: u32) -> Line
+    ensures { λ r. ⌜ r ≡ partyBy adapter party ⌝ }
+{
+    if limits::MAX_ADAPTER < adapter {
+        return Line::Bad;
+    }
+    if limits::MAX_PARTY < party {
+        return Line::Bad;
+    }
+    Line::Party { adapter, party }
+}
+
+// Whose an adapter is, from behind the comma of `party`.
+fn party_of(l: &[u8]) -> Line
+    ensures { λ r. ⌜ r ≡ partyOf (now (l .entry)) ⌝ }
+{
+    let at = comma(l);
+    if l.len() <= at {
+        return Line::Bad;
+    }
+    party_by(decimal(&l[..at]), decimal(&l[at + 1..]))
 }
 
 // What a line says.

@@ -1,5 +1,7 @@
 // A name looked up in the sheet, as pick_named of refs.rs does it: names are compared where they stand, and nothing is copied.
 use crate::Settings;
+use crate::adapters;
+use crate::adapters::Adapters;
 use crate::line;
 use crate::line::Line;
 use crate::rows;
@@ -8,6 +10,8 @@ ghost use mathlib.Core.Path.{_≡_};
 ghost use Prim.Native.Nat.{_≤_};
 ghost use Rattle.text.specs.Choice.{pick};
 ghost use Rattle.sheet.specs.Sheet.{lines, entries};
+ghost use Rattle.sheet.specs.Party.{entriesOn};
+ghost use Rattle.sheet.specs.Adapters.{has};
 ghost use Rattle.sheet.specs.View.{viewOf};
 ghost use Rattle.sheet.specs.Resolve.{isIn, pickNamed};
 ghost use Rattle.sheet.specs.Tally.{scopedTally, otherTally, tallied, lineTally, tally, noTally, Passed, foundBy};
@@ -109,9 +113,9 @@ fn with_row(t: Tally, scope: Scope, adapter: u32, number: u32) -> Tally
     other_tally(t, adapter)
 }
 
-// One line more.
-fn with_line(t: Tally, l: &[u8], kind: u32, name: &[u8], scope: Scope) -> Tally
-    ensures { λ r. ⌜ r ≡ lineTally kind (now (name .entry)) scope t (now (l .entry)) ⌝ }
+// One line more. A row on another's adapter changes nothing.
+fn with_line(t: Tally, own: Adapters, l: &[u8], kind: u32, name: &[u8], scope: Scope) -> Tally
+    ensures { λ r. ⌜ r ≡ lineTally (has own) kind (now (name .entry)) scope t (now (l .entry)) ⌝ }
 {
     let said = line::line_of(l);
     match said {
@@ -123,6 +127,9 @@ fn with_line(t: Tally, l: &[u8], kind: u32, name: &[u8], scope: Scope) -> Tally
             if k != kind {
                 return t;
             }
+            if !adapters::has(own, adapter) {
+                return t;
+            }
             if text::part::same(line::name_of(l), name) {
                 return with_row(t, scope, adapter, number);
             }
@@ -130,6 +137,10 @@ fn with_line(t: Tally, l: &[u8], kind: u32, name: &[u8], scope: Scope) -> Tally
         }
         Line::Primary(_) => t,
         Line::Adapter(_) => t,
+        Line::Party {
+            adapter: _,
+            party: _,
+        } => t,
         Line::Bad => t,
     }
 }
@@ -192,8 +203,8 @@ fn skip_lines(s: &[u8], from: usize, name: &[u8]) -> usize
 }
 
 // All lines of the sheet.
-fn tally_all(s: &[u8], kind: u32, name: &[u8], scope: Scope) -> Tally
-    ensures { λ r. ⌜ r ≡ tally kind (now (name .entry)) scope noTally (entries (lines (now (s .entry)))) ⌝ }
+fn tally_all(s: &[u8], own: Adapters, kind: u32, name: &[u8], scope: Scope) -> Tally
+    ensures { λ r. ⌜ r ≡ tally kind (now (name .entry)) scope noTally (entriesOn (has own) (entries (lines (now (s .entry))))) ⌝ }
 {
     let mut t = Tally {
         known: false,
@@ -206,7 +217,7 @@ fn tally_all(s: &[u8], kind: u32, name: &[u8], scope: Scope) -> Tally
     let mut at = skip_lines(s, 0, name);
     while at < s.len() {
         let end = rows::line_end(s, at);
-        t = with_line(t, text::part::part(s, at, end), kind, name, scope);
+        t = with_line(t, own, text::part::part(s, at, end), kind, name, scope);
         at = skip_lines(s, end + 1, name);
     }
     t
@@ -216,5 +227,5 @@ fn tally_all(s: &[u8], kind: u32, name: &[u8], scope: Scope) -> Tally
 pub fn pick_named(s: &[u8], settings: Settings, kind: u32, name: &[u8], scope: Scope) -> Found
     ensures { λ r. ⌜ r ≡ pickNamed kind (now (name .entry)) scope (viewOf settings (now (s .entry)) .rows) ⌝ }
 {
-    found_by(tally_all(s, kind, name, scope))
+    found_by(tally_all(s, settings.own, kind, name, scope))
 }

@@ -18,15 +18,14 @@ use Rattle.tokens.specs.Lex.{Lexing, lexText, mostBytes, leastWords}
 use Rattle.tokens.specs.Layout.{Laid, end, refusal, next, Lexical}
 use Rattle.tokens.proofs.LayoutLaws.{laid}
 use Rattle.tokens.proofs.Okay.{both-true}
-use Rattle.sheet.specs.Sheet.{sheetCheck}
-use Rattle.sheet.specs.View.{View}
-use Rattle.sheet.specs.declared.Habit.{Habit}
-use Rattle.sheet.specs.declared.rows.Sheet.{Sheet}
+use Rattle.sheet.specs.Sheet.{Sheet, well-formed, bad-line, sheetCheck}
+use Rattle.sheet.specs.View.{View, seen, ownPrimary}
+use Rattle.sheet.specs.declared.Call.{Call}
 use Rattle.model.specs.Lists.{acceptedWith, refusedWith}
 use Rattle.references.proofs.NumberLaws.{isRefusal, Refuses}
 use Rattle.language.proofs.RefusalLaws.{rule-refuses}
 use Rattle.language.specs.Section.{Lists}
-use Rattle.language.specs.Read.{parsed, ruleOf, lexedFrom, byText, bySheet, Outcome, seen, readOf}
+use Rattle.language.specs.Read.{parsed, ruleOf, lexedFrom, byPrimary, byText, bySheet, Outcome, readOf}
 use Rattle.flat.specs.Flat.{answerWords}
 use Rattle.tergyosul.specs.Room.{noRoom, byRoom}
 
@@ -64,36 +63,41 @@ lexed-known text view whole l (end gap t h) = parsed-known whole _ (rule-refuses
 lexed-known text view whole l (refusal gap c rest t h n) = lexical-known n
 lexed-known text view whole l (next gap u rest t s h k) = lexed-known text view whole _ k
 
-module _ (habit : Habit) (text sheet words : List ℕ) where
-  text-known : (c : Checked) → Known (byText text (seen habit sheet) words c .answer .number)
-  unfolding byText refusedWith
-  text-known WellFormed = lexed-known text (seen habit sheet) (lexText text) (lexText text) (laid text)
-  text-known (IllFormed line column) = omega arith
+module _ (call : Call) (text sheet words : List ℕ) where
+  own-known : (own : Bool) → Known (byPrimary text (seen call sheet) words own .answer .number)
+  unfolding byPrimary refusedWith
+  own-known true = lexed-known text (seen call sheet) (lexText text) (lexText text) (laid text)
+  own-known false = omega arith
 
-  sheet-known : (x : Sheet) → Known (bySheet text (seen habit sheet) words x .answer .number)
+  text-known : (own : Bool) (c : Checked) → Known (byText text (seen call sheet) words own c .answer .number)
+  unfolding byText refusedWith
+  text-known own WellFormed = own-known own
+  text-known own (IllFormed line column) = omega arith
+
+  sheet-known : (own : Bool) (x : Sheet) → Known (bySheet text (seen call sheet) words own x .answer .number)
   unfolding bySheet refusedWith
-  sheet-known Sheet.WellFormed = text-known (checkOf text)
-  sheet-known (Sheet.BadLine n) = omega arith
+  sheet-known own well-formed = text-known own (checkOf text)
+  sheet-known own (bad-line n) = omega arith
 
   either : (b : Bool) (x y : Outcome) → Known (x .answer .number) → Known (y .answer .number) → Known (pick b x y .answer .number)
   either true x y h k = h
   either false x y h k = k
 
-  read-known : Known (readOf habit text sheet words .answer .number)
+  read-known : Known (readOf call text sheet words .answer .number)
   unfolding readOf refusedWith
   read-known =
       let first : Known 1 = omega arith in
       let second : Known 2 = omega arith in
       either (ltb mostBytes (length text)) (record { answer = refusedWith 1 0 0 0; buffer = words }) _ first
-      (either (ltb (length words) leastWords) (record { answer = refusedWith 2 0 0 0; buffer = words }) _ second (sheet-known (sheetCheck sheet)))
+      (either (ltb (length words) leastWords) (record { answer = refusedWith 2 0 0 0; buffer = words }) _ second (sheet-known (ownPrimary call sheet) (sheetCheck sheet)))
 
   -- "No refusal has this number."
-  pub no-room-alone : (answer : List ℕ) → byRoom answerWords answer noRoom (readOf habit text sheet words .answer .number) ≡ noRoom →
+  pub no-room-alone : (answer : List ℕ) → byRoom answerWords answer noRoom (readOf call text sheet words .answer .number) ≡ noRoom →
       length answer < answerWords
   unfolding byRoom
   no-room-alone answer e = by (ltb (length answer) answerWords) refl e
     where
-      by : (b : Bool) → ltb (length answer) answerWords ≡ b → pick b noRoom (readOf habit text sheet words .answer .number) ≡ noRoom →
+      by : (b : Bool) → ltb (length answer) answerWords ≡ b → pick b noRoom (readOf call text sheet words .answer .number) ≡ noRoom →
           length answer < answerWords
       by true p q = ltb-true _ _ p
       by false p q = let known = read-known in absurd (omega arith)

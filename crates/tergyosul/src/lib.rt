@@ -1,11 +1,12 @@
 // The library for C and Rust: numbers and slices only. A slice is passed as a pointer and a length.
+use sheet::Call;
 use sheet::Habit;
 use tokens::lexer::Lexed;
 ghost use mathlib.Core.Path.{_≡_};
 ghost use Rattle.tokens.specs.Lex.{lexAnswer, lexWords};
 ghost use Rattle.tokens.specs.Buffer.{lexNumber};
-ghost use Rattle.sheet.specs.declared.Habit.the-variants.{Rule, Archive};
-ghost use Rattle.language.specs.Read.{readOf};
+ghost use Rattle.sheet.specs.Sheet.{lines, primaryLine};
+ghost use Rattle.language.specs.Read.{readOf, ruleCall, archiveCall};
 ghost use Rattle.tergyosul.specs.Lexing.{fourFirst, lexFlat};
 ghost use Rattle.tergyosul.specs.Room.{noRoom, lexAnswerWords, byRoom};
 ghost use Rattle.flat.specs.Flat.{answerWords, flat};
@@ -63,34 +64,46 @@ pub extern "C" fn tergyosul_lex(text: &[u8], words: &mut [u32], answer: &mut [u3
 }
 
 // The call of either habit.
-fn read_by(habit: Habit, text: &[u8], sheet: &[u8], words: &mut [u32], answer: &mut [u32]) -> u32
-    ensures number { λ r. ⌜ r ≡ byRoom answerWords (now (answer .entry)) noRoom (readOf habit (now (text .entry)) (now (sheet .entry)) (now (words .entry)) .answer .number) ⌝ }
-    ensures words { λ _. ⌜ now (words .exit) ≡ byRoom answerWords (now (answer .entry)) (now (words .entry)) (readOf habit (now (text .entry)) (now (sheet .entry)) (now (words .entry)) .buffer) ⌝ }
-    ensures answer { λ _. ⌜ now (answer .exit) ≡ flat (now (answer .entry)) (readOf habit (now (text .entry)) (now (sheet .entry)) (now (words .entry)) .answer) ⌝ }
+fn read_by(call: Call, text: &[u8], sheet: &[u8], words: &mut [u32], answer: &mut [u32]) -> u32
+    ensures number { λ r. ⌜ r ≡ byRoom answerWords (now (answer .entry)) noRoom (readOf call (now (text .entry)) (now (sheet .entry)) (now (words .entry)) .answer .number) ⌝ }
+    ensures words { λ _. ⌜ now (words .exit) ≡ byRoom answerWords (now (answer .entry)) (now (words .entry)) (readOf call (now (text .entry)) (now (sheet .entry)) (now (words .entry)) .buffer) ⌝ }
+    ensures answer { λ _. ⌜ now (answer .exit) ≡ flat (now (answer .entry)) (readOf call (now (text .entry)) (now (sheet .entry)) (now (words .entry)) .answer) ⌝ }
 {
     if answer.len() < flat::ANSWER_WORDS {
         return NO_ROOM;
     }
-    let a = reader::read::read_by(habit, text, sheet, words);
+    let a = reader::read::read_by(call, text, sheet, words);
     flat::put_answer(answer, a);
     a.number
 }
 
-// Reads a rule text with a name sheet. The result is 0, or the number of the refusal; answer gets the whole answer. If it has no room for
-// that, nothing is read or written, and the result is NO_ROOM. The words are lent for the records of the tokens: at least 5,120. A repeated
-// argument of `input(` is refused.
+// Reads a rule text with a name sheet, for a party, with its own primary adapter. The result is 0, or the number of the refusal; answer gets the
+// whole answer. If it has no room for that, nothing is read or written, and the result is NO_ROOM. The words are lent for the records of the
+// tokens: at least 5,120. A repeated argument of `input(` is refused.
 #[no_mangle]
 pub extern "C" fn tergyosul_read(
     text: &[u8],
     sheet: &[u8],
+    party: u8,
+    primary: u8,
     words: &mut [u32],
     answer: &mut [u32],
 ) -> u32
-    ensures number { λ r. ⌜ r ≡ byRoom answerWords (now (answer .entry)) noRoom (readOf Rule (now (text .entry)) (now (sheet .entry)) (now (words .entry)) .answer .number) ⌝ }
-    ensures words { λ _. ⌜ now (words .exit) ≡ byRoom answerWords (now (answer .entry)) (now (words .entry)) (readOf Rule (now (text .entry)) (now (sheet .entry)) (now (words .entry)) .buffer) ⌝ }
-    ensures answer { λ _. ⌜ now (answer .exit) ≡ flat (now (answer .entry)) (readOf Rule (now (text .entry)) (now (sheet .entry)) (now (words .entry)) .answer) ⌝ }
+    ensures number { λ r. ⌜ r ≡ byRoom answerWords (now (answer .entry)) noRoom (readOf (ruleCall party primary) (now (text .entry)) (now (sheet .entry)) (now (words .entry)) .answer .number) ⌝ }
+    ensures words { λ _. ⌜ now (words .exit) ≡ byRoom answerWords (now (answer .entry)) (now (words .entry)) (readOf (ruleCall party primary) (now (text .entry)) (now (sheet .entry)) (now (words .entry)) .buffer) ⌝ }
+    ensures answer { λ _. ⌜ now (answer .exit) ≡ flat (now (answer .entry)) (readOf (ruleCall party primary) (now (text .entry)) (now (sheet .entry)) (now (words .entry)) .answer) ⌝ }
 {
-    read_by(Habit::Rule, text, sheet, words, answer)
+    read_by(
+        Call {
+            habit: Habit::Rule,
+            party,
+            primary,
+        },
+        text,
+        sheet,
+        words,
+        answer,
+    )
 }
 
 // The archive loader's call: the same, but that a repeated argument of `input(` replaces the earlier one.
@@ -98,12 +111,32 @@ pub extern "C" fn tergyosul_read(
 pub extern "C" fn tergyosul_read_archive(
     text: &[u8],
     sheet: &[u8],
+    party: u8,
+    primary: u8,
     words: &mut [u32],
     answer: &mut [u32],
 ) -> u32
-    ensures number { λ r. ⌜ r ≡ byRoom answerWords (now (answer .entry)) noRoom (readOf Archive (now (text .entry)) (now (sheet .entry)) (now (words .entry)) .answer .number) ⌝ }
-    ensures words { λ _. ⌜ now (words .exit) ≡ byRoom answerWords (now (answer .entry)) (now (words .entry)) (readOf Archive (now (text .entry)) (now (sheet .entry)) (now (words .entry)) .buffer) ⌝ }
-    ensures answer { λ _. ⌜ now (answer .exit) ≡ flat (now (answer .entry)) (readOf Archive (now (text .entry)) (now (sheet .entry)) (now (words .entry)) .answer) ⌝ }
+    ensures number { λ r. ⌜ r ≡ byRoom answerWords (now (answer .entry)) noRoom (readOf (archiveCall party primary) (now (text .entry)) (now (sheet .entry)) (now (words .entry)) .answer .number) ⌝ }
+    ensures words { λ _. ⌜ now (words .exit) ≡ byRoom answerWords (now (answer .entry)) (now (words .entry)) (readOf (archiveCall party primary) (now (text .entry)) (now (sheet .entry)) (now (words .entry)) .buffer) ⌝ }
+    ensures answer { λ _. ⌜ now (answer .exit) ≡ flat (now (answer .entry)) (readOf (archiveCall party primary) (now (text .entry)) (now (sheet .entry)) (now (words .entry)) .answer) ⌝ }
 {
-    read_by(Habit::Archive, text, sheet, words, answer)
+    read_by(
+        Call {
+            habit: Habit::Archive,
+            party,
+            primary,
+        },
+        text,
+        sheet,
+        words,
+        answer,
+    )
+}
+
+// The sheet's own primary adapter, which its first line names; 0 where it names none. A call that is to go by it passes it on.
+#[no_mangle]
+pub extern "C" fn tergyosul_sheet_primary(sheet: &[u8]) -> u32
+    ensures { λ r. ⌜ r ≡ primaryLine (lines (now (sheet .entry))) ⌝ }
+{
+    sheet::rows::primary(sheet)
 }

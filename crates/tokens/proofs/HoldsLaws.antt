@@ -9,7 +9,7 @@ use lib.ListN.{length, getD, take, drop, take-append-drop, length-append, length
 use lib.Seq.{length-take-le, sets-eq, drop-drop, drop-append-add, getD-append-add, getD-drop}
 use lib.Dec.{ltb}
 use borrow.Author.Tests.{lt-ltb, ltb-false}
-use Rattle.text.specs.Choice.{pick, within}
+use Rattle.text.specs.Choice.{pick}
 use Rattle.text.specs.Utf8.{Character}
 use Rattle.text.specs.Place.{start, checkOf}
 use Rattle.text.specs.declared.place.Checked.{Checked}
@@ -22,7 +22,7 @@ use Rattle.tokens.specs.Token.{look, tokenAt}
 use Rattle.tokens.specs.Lex.{Lexing, ended, refused, token, lexeme, lexAt, lexNoMore, behind, lexFrom, lexText, answerFrom, writtenFrom, mostTokens, mostBytes, leastWords, answerBy, wordsBy, lexAnswer, lexWords}
 use Rattle.tokens.specs.Layout.{Laid, Lexical, no-token, unterminated, too-large, no-time, places, no-unit, long, fine, too-many}
 use Rattle.tokens.specs.Ended.{recordWords}
-use Rattle.tokens.specs.Buffer.{Holds, lexNumber, frontOf}
+use Rattle.tokens.specs.Buffer.{Holds, lexNumber, isAskedFirst, frontOf}
 use Rattle.tokens.specs.declared.record.Record.{Record}
 use Rattle.tokens.specs.declared.lexer.Lexeme.{Lexeme}
 use Rattle.tokens.specs.declared.lexer.Lexeme.the-variants.{Token}
@@ -132,8 +132,8 @@ records-held s words h =
 
 -- ---- by the number of the answer
 
--- no refusal of the lexer has a number from 1 to 4
-pub lexical-late : {number : ℕ} → Lexical number → within 1 4 number ≡ false
+-- no refusal of the lexer is a question that is asked first
+pub lexical-late : {number : ℕ} → Lexical number → isAskedFirst number ≡ false
 lexical-late no-token = refl
 lexical-late unterminated = refl
 lexical-late too-large = refl
@@ -144,7 +144,7 @@ lexical-late long = refl
 lexical-late fine = refl
 lexical-late too-many = refl
 
-answer-late : {s : List ℕ} {before : List Character} {l : Lexing} → Laid s before l → (n : ℕ) → within 1 4 (lexNumber (answerFrom n l)) ≡ false
+answer-late : {s : List ℕ} {before : List Character} {l : Lexing} → Laid s before l → (n : ℕ) → isAskedFirst (lexNumber (answerFrom n l)) ≡ false
 unfolding lexNumber answerFrom
 answer-late (Laid.end gap t e) n = refl
 answer-late (Laid.refusal gap c rest t e h) n = lexical-late h
@@ -156,7 +156,7 @@ pub lexed-held : (s words : List ℕ) → leastWords ≤ length words →
 unfolding frontOf
 lexed-held s words h = rw (answer-late (laid s) 0) (records-held s words h)
 
-pub asked-held : (number : ℕ) (s words : List ℕ) → within 1 4 number ≡ true → Holds (frontOf number s) words words
+pub asked-held : (number : ℕ) (s words : List ℕ) → isAskedFirst number ≡ true → Holds (frontOf number s) words words
 unfolding frontOf
 asked-held number s words e = rw e (unchanged words)
 

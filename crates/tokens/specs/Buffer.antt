@@ -4,6 +4,8 @@ use Prim.Native.Nat.{ℕ, _<_, _≤_}
 use mathlib.Core.Path.{_≡_}
 use mathlib.Core.List.{List, []}
 use lib.ListN.{length, getD}
+use mathlib.Core.Bool.{Bool, true}
+use lib.Dec.{eqb}
 use Rattle.text.specs.Choice.{pick, within}
 use Rattle.tokens.specs.Lex.{lexText}
 use Rattle.tokens.specs.Ended.{recordWords}
@@ -21,7 +23,11 @@ unfoldable pub lexNumber : Lexed → ℕ
 lexNumber (Tokens count line column) = 0
 lexNumber (Refused number line column) = number
 
--- the words that a call writes which ends with this number: none for 1 to 4, which are asked before the text is lexed; else the records of
--- the tokens, of a text that the lexer refuses those before the refused token
+-- the questions that are asked before the text is lexed: 1 to 4, and 53 (document 02, §6: "after question 4")
+abbrev pub isAskedFirst : ℕ → Bool
+isAskedFirst number = pick (within 1 4 number) true (eqb number 53)
+
+-- the words that a call writes which ends with this number: none for a question that is asked first; else the records of the tokens, of a text
+-- that the lexer refuses those before the refused token
 unfoldable pub frontOf : ℕ → List ℕ → List ℕ
-frontOf number text = pick (within 1 4 number) [] (recordWords (lexText text))
+frontOf number text = pick (isAskedFirst number) [] (recordWords (lexText text))

@@ -32,6 +32,22 @@ impl Case {
         self.settings.as_ref().map_or(Habit::Archive, |settings| settings.habit)
     }
 
+    /// The party that the call names (document 02 §6); a `case` line means party 0.
+    pub fn party(&self) -> u8 {
+        self.settings.as_ref().map_or(0, |settings| settings.party)
+    }
+
+    /// The call's own primary adapter; a `case` line means the sheet's.
+    pub fn primary(&self) -> u8 {
+        self.settings.as_ref().map_or_else(|| own_primary(&self.sheet), |settings| settings.primary)
+    }
+
+    /// The same as a `call` line of this party with this primary.
+    pub fn with_party(&self, party: u8, primary: u8) -> Case {
+        let topics = self.settings.as_ref().map_or_else(Vec::new, |settings| settings.topics.clone());
+        Case { settings: Some(Settings { habit: self.habit(), party, primary, topics }), ..self.clone() }
+    }
+
     /// The same with this habit. A `case` line that has it already stays one.
     pub fn with_habit(&self, habit: Habit) -> Case {
         let mut case = self.clone();
@@ -223,6 +239,17 @@ mod tests {
         let call = case.with_habit(Habit::Rule);
         assert_eq!((call.habit(), call.with_habit(Habit::Archive).habit()), (Habit::Rule, Habit::Archive));
         assert!(call.with_habit(Habit::Archive).settings.is_some());
+    }
+
+    #[test]
+    fn a_case_has_party_0_and_the_sheets_primary() {
+        let case = Case::new(1, 0, [], b"primary,4".as_slice());
+        assert_eq!((case.party(), case.primary()), (0, 4));
+        let call = case.with_habit(Habit::Rule);
+        assert_eq!((call.party(), call.primary()), (0, 4));
+        let other = call.with_party(7, 200);
+        assert_eq!((other.habit(), other.party(), other.primary()), (Habit::Rule, 7, 200));
+        assert_eq!(first_line(&case.with_party(7, 200)), "call 1 archive 0 7 200 0 9 0");
     }
 
     #[test]

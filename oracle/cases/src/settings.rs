@@ -27,7 +27,7 @@ impl Habit {
     }
 }
 
-/// The settings of a call. Party, primary and topics are for requests that have not landed; nothing reads them yet.
+/// The settings of a call. Topics are for a request that has not landed; nothing reads them yet.
 #[derive(Debug, Clone, PartialEq, Eq)]
 pub struct Settings {
     pub habit: Habit,

@@ -1,6 +1,6 @@
 //! What a case covered, read off its answer in the replay format, and off its text for what the answer does not say.
 
-use crate::{durations, records, repeats};
+use crate::{durations, parties, records, repeats};
 use cases::Case;
 use std::io::{self, Write};
 
@@ -11,7 +11,8 @@ const TOKENS: &[&str] = &[
 /// The refusals of document 01, without 5 to 9 and 14, and of document 02.
 const REFUSALS: &[&str] = &[
     "1", "2", "3", "4", "10", "11", "12", "13", "15", "16", "17", "18", "19", "20", "21", "22", "23", "24", "25", "26", "27",
-    "28", "29", "30", "31", "32", "33", "34", "35", "36", "37", "38", "39", "40", "41", "63",
+    "28", "29", "30", "31", "32", "33", "34", "35", "36", "37", "38", "39", "40", "41", "53",
+    "63",
 ];
 
 const TRIGGERS: &[&str] = &[
@@ -62,7 +63,7 @@ const GROUPS: &[(&str, &[&str])] = &[
     ("refused", REFUSALS), ("token", TOKENS), ("trigger", TRIGGERS), ("condition", CONDITIONS), ("reading", READINGS),
     ("event", EVENTS), ("selector", SELECTORS), ("target", TARGETS), ("bound", BOUNDS), ("comparison", COMPARISONS),
     ("value", VALUES), ("choice", CHOICES), ("count", COUNTS), ("duration", durations::SORTS),
-    ("buffer", records::SORTS), ("repeat", repeats::SORTS), ("line", repeats::LINES),
+    ("buffer", records::SORTS), ("repeat", repeats::SORTS), ("party", parties::SORTS), ("line", repeats::LINES),
 ];
 
 /// The places of the groups in `GROUPS`.
@@ -82,11 +83,12 @@ const COUNT: usize = 12;
 const DURATION: usize = 13;
 const BUFFER: usize = 14;
 const REPEAT: usize = 15;
-const LINE: usize = 16;
+const PARTY: usize = 16;
+const LINE: usize = 17;
 
 /// The set of what one answer shows; each member is numbered along `GROUPS`.
 #[derive(Debug, Clone, Copy, Default, PartialEq, Eq, Hash, PartialOrd, Ord)]
-pub struct Features([u64; 5]);
+pub struct Features([u64; 6]);
 
 /// The number of members there are.
 pub fn feature_count() -> usize {
@@ -111,6 +113,7 @@ impl Features {
         durations::sorts(case, answer).into_iter().for_each(|sort| set.mark(DURATION, Some(sort)));
         records::sorts(case, answer).into_iter().for_each(|sort| set.mark(BUFFER, Some(sort)));
         repeats::sorts(case, answer).iter().for_each(|sort| set.mark(REPEAT, Some(sort)));
+        parties::sorts(case, answer).into_iter().for_each(|sort| set.mark(PARTY, Some(sort)));
         set.mark(LINE, Some(repeats::line(case)));
         for line in answer.lines() {
             let mut fields = line.split(' ');
@@ -204,11 +207,13 @@ pub struct Coverage {
     pub in_domain: u64,
     pub accepted: u64,
     pub refused: u64,
+    /// Cases that were compared with the same call on a sheet beside theirs.
+    pub beside: u64,
 }
 
 impl Default for Coverage {
     fn default() -> Coverage {
-        Coverage { counts: vec![0; feature_count()], cases: 0, in_domain: 0, accepted: 0, refused: 0 }
+        Coverage { counts: vec![0; feature_count()], cases: 0, in_domain: 0, accepted: 0, refused: 0, beside: 0 }
     }
 }
 
@@ -229,11 +234,13 @@ impl Coverage {
         self.in_domain += other.in_domain;
         self.accepted += other.accepted;
         self.refused += other.refused;
+        self.beside += other.beside;
     }
 
     /// The names of what no case showed.
     pub fn zeros(&self) -> Vec<String> {
-        (0..self.counts.len()).filter(|&at| self.counts[at] == 0).map(feature_name).collect()
+        let features = (0..self.counts.len()).filter(|&at| self.counts[at] == 0).map(feature_name);
+        features.chain((self.beside == 0).then(|| "a sheet beside".to_string())).collect()
     }
 
     pub fn print(&self, out: &mut impl Write) -> io::Result<()> {
@@ -246,7 +253,8 @@ impl Coverage {
             }
             writeln!(out)?;
         }
-        let Coverage { cases, in_domain, accepted, refused, .. } = self;
-        writeln!(out, "{cases} cases: {in_domain} in the domain, {accepted} accepted, {refused} refused")
+        let Coverage { cases, in_domain, accepted, refused, beside, .. } = self;
+        writeln!(out, "{cases} cases: {in_domain} in the domain, {accepted} accepted, {refused} refused")?;
+        writeln!(out, "{beside} of them compared with the same call on a sheet beside theirs")
     }
 }

@@ -5,6 +5,7 @@ mod durations;
 pub mod external;
 pub mod features;
 pub mod options;
+mod parties;
 pub mod readers;
 mod records;
 mod repeats;

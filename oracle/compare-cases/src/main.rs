@@ -5,7 +5,7 @@ use cases::{first_line, write_case, Case};
 use compare_cases::external::External;
 use compare_cases::features::Coverage;
 use compare_cases::options::{self, Options, Stored, Vectors};
-use compare_cases::readers::{quiet_panics, Readers};
+use compare_cases::readers::{quiet_panics, Other, Readers};
 use compare_cases::run::{run, smallest, Difference, Outcome, Plan};
 use compare_cases::vectors;
 use std::fs::File;
@@ -91,6 +91,9 @@ fn report(options: &Options, readers: &Readers, difference: &Difference) -> io::
     let small = smallest(difference, readers);
     println!("{}", first_line(&small.case));
     println!("{}\n{}", small.case.text.escape_ascii(), small.case.sheet.escape_ascii());
+    if small.other == Other::Beside {
+        println!("beside it\n{}", generate::beside(&small.case).sheet.escape_ascii());
+    }
     println!("--- the second reader\n{}", readers.second(&small.case));
     println!("--- {}\n{}", small.other.name(), small.answer);
     match &options.smallest {

@@ -9,7 +9,8 @@ use std::panic::{self, AssertUnwindSafe};
 pub type Reader<'a> = &'a (dyn Fn(&Case) -> String + Sync);
 
 /// The second reader answers every case; the supplied one is held to it inside the domain, the replay program, if
-/// there is one, everywhere. The second reader's default call is held to its own archive call.
+/// there is one, everywhere. The second reader's default call is held to its own archive call, and its call on one sheet to
+/// the same call on another that agrees for the party.
 pub struct Readers<'a> {
     pub second: Reader<'a>,
     pub in_domain: &'a (dyn Fn(&Case) -> bool + Sync),
@@ -25,6 +26,9 @@ pub enum Other {
     /// The second reader's archive call. "The archive loader keeps a call with the old habit, unchanged" (document 02
     /// §11): where the default call's answer is not 63, it is the archive call's.
     Archive,
+    /// The second reader's call on another sheet. "For two accepted sheets that agree on which adapters are the party's, and on
+    /// those adapters' rows in their order, the party's call gives the same answer" (document 02 §6).
+    Beside,
 }
 
 impl Other {
@@ -33,6 +37,7 @@ impl Other {
             Other::Supplied => "the supplied Rust",
             Other::Replay => "the replay program",
             Other::Archive => "the archive call",
+            Other::Beside => "the call on a sheet that agrees for the party",
         }
     }
 }
@@ -64,6 +69,11 @@ pub fn refused_as_repeat(answer: &str) -> bool {
     matches!(refusal(answer), Some(("63", _)))
 }
 
+/// Whether the answer shows that the sheet is accepted.
+pub fn past_question_3(answer: &str) -> bool {
+    !matches!(refusal(answer), Some(("1" | "2" | "3", _)))
+}
+
 impl Readers<'_> {
     pub fn second(&self, case: &Case) -> String {
         guarded(self.second, case)
@@ -81,6 +91,10 @@ impl Readers<'_> {
             Other::Archive => {
                 let bound = case.habit() != Habit::Archive && !refused_as_repeat(&self.second(case));
                 bound.then(|| self.second(&case.with_habit(Habit::Archive)))
+            }
+            Other::Beside => {
+                let accepted = past_question_3(&self.second(case));
+                accepted.then(|| self.second(&generate::beside(case)))
             }
         }
     }

@@ -1,7 +1,7 @@
 //! A run over many cases, in batches, on one thread or more.
 
 use crate::features::Coverage;
-use crate::readers::{refused_as_repeat, Other, Readers};
+use crate::readers::{past_question_3, refused_as_repeat, Other, Readers};
 use crate::shrink::shrink;
 use cases::{Case, Habit};
 use std::io;
@@ -102,23 +102,40 @@ fn tell(plan: &Plan, shared: &Shared, more: u64) {
     }
 }
 
-/// Compares the cases of one batch, in order.
+/// Compares the cases of one batch, in order. The replay program gets the sheets beside theirs too, and must give the same.
 fn compare(cases: &[Case], readers: &Readers, coverage: &mut Coverage) -> io::Result<Option<Difference>> {
-    let mut answers = Vec::with_capacity(cases.len());
+    let mut asked = Vec::with_capacity(cases.len() * 2);
+    let mut answers = Vec::with_capacity(cases.len() * 2);
     for case in cases {
         let answer = readers.second(case);
         let (in_domain, found) = compare_habits(case, readers);
         coverage.add(case, &answer, in_domain);
-        if found.is_some() {
-            return Ok(found);
+        let beside = has_beside(case, &answer).then(|| generate::beside(case));
+        if let Some(found) = found.or_else(|| compare_beside(case, &answer, beside.as_ref(), readers)) {
+            return Ok(Some(found));
         }
-        answers.push(answer);
+        coverage.beside += u64::from(beside.is_some());
+        for case in [case.clone()].into_iter().chain(beside) {
+            asked.push(case);
+            answers.push(answer.clone());
+        }
     }
     let Some(replay) = &readers.replay else { return Ok(None) };
-    let mut replayed = replay.answers(cases)?;
-    let Some(at) = (0..cases.len()).find(|&at| replayed[at] != answers[at]) else { return Ok(None) };
+    let mut replayed = replay.answers(&asked)?;
+    let Some(at) = (0..asked.len()).find(|&at| replayed[at] != answers[at]) else { return Ok(None) };
     let answer = std::mem::take(&mut replayed[at]);
-    Ok(Some(isolate(cases, at, answer, readers)))
+    Ok(Some(isolate(&asked, at, answer, readers)))
+}
+
+/// Every sheet with party rows gets one beside it, and some of the others, which are all alike to party 0.
+fn has_beside(case: &Case, answer: &str) -> bool {
+    let shared = case.sheet.windows(7).any(|part| part == b"\nparty,");
+    past_question_3(answer) && (shared || case.id % 8 == 0)
+}
+
+fn compare_beside(case: &Case, answer: &str, beside: Option<&Case>, readers: &Readers) -> Option<Difference> {
+    let other = readers.second(beside?);
+    (other != answer).then(|| Difference { case: case.clone(), other: Other::Beside, answer: other, alone: true })
 }
 
 /// The archive call of a case against the supplied Rust, if the domain has it, and its default call against its archive

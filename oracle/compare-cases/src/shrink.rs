@@ -15,6 +15,7 @@ pub fn shrink(case: &Case, tries: usize, shows: &mut dyn FnMut(&Case) -> bool) -
         let size = weight(&best);
         with_usual_words(&mut best, &mut shows);
         without_settings(&mut best, &mut shows);
+        without_parties(&mut best, &mut shows);
         for split in [rows as fn(&[u8]) -> Vec<&[u8]>, bytes] {
             best.sheet = drop_pieces(&best.sheet, split, &mut |sheet| shows(&Case { sheet: sheet.to_vec(), ..best.clone() }));
         }
@@ -42,6 +43,15 @@ fn with_usual_words(best: &mut Case, shows: &mut dyn FnMut(&Case) -> bool) {
 /// So is one that need not be a `call` line.
 fn without_settings(best: &mut Case, shows: &mut dyn FnMut(&Case) -> bool) {
     let plain = Case { settings: None, ..best.clone() };
+    if best.settings.is_some() && shows(&plain) {
+        *best = plain;
+    }
+}
+
+/// And one in which there is one party only, so that it need not be a `call` line.
+fn without_parties(best: &mut Case, shows: &mut dyn FnMut(&Case) -> bool) {
+    let others: Vec<&[u8]> = rows(&best.sheet).into_iter().filter(|row| !row.starts_with(b"party,")).collect();
+    let plain = Case { settings: None, sheet: others.concat(), ..best.clone() };
     if best.settings.is_some() && shows(&plain) {
         *best = plain;
     }

@@ -1,11 +1,11 @@
 use crate::external::split_answers;
 use crate::features::{feature_count, feature_name, Coverage, Features};
 use crate::options;
-use crate::readers::{guarded, quiet_panics, Other, Reader, Readers};
+use crate::readers::{guarded, past_question_3, quiet_panics, Other, Reader, Readers};
 use crate::run::{run, smallest, Difference, Outcome, Plan};
 use crate::shrink::shrink;
 use crate::vectors;
-use cases::{Case, Habit, FORMER_LEAST_WORDS, LEAST_WORDS, MOST_WORDS};
+use cases::{own_primary, Case, Habit, FORMER_LEAST_WORDS, LEAST_WORDS, MOST_WORDS};
 
 const SEED: u64 = 11;
 
@@ -17,6 +17,13 @@ fn generated(index: u64) -> Case {
     generate::case(SEED, index)
 }
 
+/// The same without parties, for readers that know nothing of them.
+fn of_one_party(index: u64) -> Case {
+    let case = generated(index);
+    let rows: Vec<&[u8]> = case.sheet.split_inclusive(|&b| b == b'\n').filter(|row| !row.starts_with(b"party,")).collect();
+    Case { sheet: rows.concat(), ..case.with_party(0, case.primary()) }
+}
+
 fn always(_: &Case) -> bool {
     true
 }
@@ -24,7 +31,7 @@ fn always(_: &Case) -> bool {
 /// The first difference between two readers over the generated cases, made small.
 fn difference(second: Reader, supplied: Reader, threads: u64) -> Option<Difference> {
     let readers = Readers { second, in_domain: &always, supplied, replay: None };
-    let plan = Plan { make: &generated, count: 30_000, batch: 1_000, threads, progress: false };
+    let plan = Plan { make: &of_one_party, count: 30_000, batch: 1_000, threads, progress: false };
     match run(&plan, &readers).expect("no program is run") {
         Outcome::Same(_) => None,
         Outcome::Different(found) => Some(smallest(&found, &readers)),
@@ -65,7 +72,7 @@ fn a_33_in_the_place_of_34_is_found() {
     let found = difference(&right, &faulty, 1).expect("a difference");
     assert_eq!(by_rows(&found.case), 34);
     let rows = found.case.sheet.split(|&b| b == b'\n').filter(|row| !row.is_empty()).count();
-    assert!(rows == 2 && found.case.sheet.len() < 30 && found.case.text.len() < 4, "{:?}", found.case);
+    assert!(rows == 2 && found.case.sheet.len() < 30 && found.case.text.len() < 6, "{:?}", found.case);
 }
 
 #[test]
@@ -124,7 +131,7 @@ fn features_are_read_off_an_answer() {
         "count T 2", "count C 3", "buffer least taken", "line case",
     ];
     assert_eq!(names, wanted);
-    assert!(feature_count() <= 320);
+    assert!(feature_count() <= 384);
 }
 
 #[test]
@@ -204,6 +211,118 @@ fn the_default_call_is_held_to_the_archive_call() {
     assert!(small.case.settings.is_none() && strict(&small.case).contains("refused 63"));
 }
 
+/// The names that a group of features has for a case.
+fn shown(group: &str, case: &Case) -> String {
+    let names = Features::of(case, &second::answer(case)).members().map(feature_name);
+    names.filter_map(|name| name.strip_prefix(group).map(String::from)).collect::<Vec<_>>().join(", ")
+}
+
+#[test]
+fn parties_and_what_another_would_have_changed_are_counted() {
+    let rows = "party,1,7\nadapter,0\nadapter,1\nlamp,0,4,a\nlamp,1,4,a\nlamp,1,5,b\nlamp,1,6,c\nlamp,1,6,c\nlamp,2,7,a\n";
+    let asked = |rows: &str, party: u8, primary: u8, text: &str| {
+        shown("party ", &Case::new(1, LEAST_WORDS, format!("when {text}"), format!("primary,0\n{rows}")).with_party(party, primary))
+    };
+    for (party, primary, text, wanted) in [
+        (0, 0, "lamp(\"b\") turns on", "31 for accepted, party 0 beside another"),
+        (0, 0, "lamp(\"c\") turns on", "31 for 33, party 0 beside another"),
+        (0, 0, "lamp(\"a\") turns on", "34 for another detail, party 0 beside another"),
+        (7, 1, "lamp(\"a\") turns on", "accepted for 34, a party beside party 0"),
+        (0, 0, "lamp(\"b\", adapter=0) turns on", "31 for 32, party 0 beside another"),
+        (0, 0, "lamp(1, adapter=1) turns on", "25 for accepted, party 0 beside another"),
+        (0, 0, "lamp(64, adapter=1) turns on", "25 for 22, party 0 beside another"),
+        (0, 0, "lamp(\"c\", adapter=1) turns on", "25 for a name's refusal, party 0 beside another"),
+        (0, 0, "lamp(1, adapter=1) turns up", "25 for a later fault, party 0 beside another"),
+        (0, 3, "lamp(1, adapter=3) turns on", "25 of the primary, party 0 beside another, primary without a row"),
+        (0, 0, "lamp(1, adapter=3) turns on", "party 0 beside another"),
+        (0, 2, "scene(1) recalled when lamp(1) turns on", "party 0 beside another, primary scene, primary id"),
+        (7, 1, "input(1, 2) is press when input(group=1) is press", "a party beside party 0, primary instance, primary group"),
+        (7, 1, "hcl override starts for broadcast", "a party beside party 0, primary broadcast"),
+        (0, 1, "http trigger", "53 by a row, 53 of party 0, 53 for accepted"),
+        (7, 0, "@", "53 without a row, 53 of another party, 53 for a fault of lexing"),
+        (7, 0, "foo", "53 without a row, 53 of another party, 53 for a fault of parsing"),
+    ] {
+        assert_eq!(asked(rows, party, primary, text), wanted, "{party} {primary} {text}");
+    }
+    for (rows, party, primary, wanted) in [
+        ("party,1,7\nparty,1,7", 0, 0, "3 by a second row, same party"),
+        ("party,1,7\nparty,1,8", 0, 0, "3 by a second row, other party"),
+        ("party,1,7\nparty,1,0", 0, 0, "3 by a second row, party 0"),
+        ("party,1,07", 0, 0, "3 by a party row's numbers"),
+        ("party,1,7\nadapter,256", 0, 0, ""),
+        ("lamp,1,4,a\nparty,1,7\nparty,2,0", 0, 0, "a row above its party row, a party row alone, a row of party 0, party 0 beside another"),
+        ("party,1,255", 255, 1, "a party beside party 0, party 255"),
+        ("adapter,1", 0, 0, ""),
+    ] {
+        assert_eq!(asked(rows, party, primary, "http trigger").replace(", primary without a row", ""), wanted, "{rows}");
+    }
+}
+
+#[test]
+fn party_rows_at_the_limits_are_counted() {
+    let parties: String = (0..256).map(|adapter| format!("party,{adapter},7\n")).collect();
+    let sheet = |rows: usize, last: &str| format!("primary,0\n{parties}{}{last}", "adapter,1\n".repeat(rows - 256));
+    let call = |sheet: String| shown("party ", &Case::new(1, LEAST_WORDS, "when http trigger", sheet).with_party(7, 0));
+    assert_eq!(call(sheet(512, "")), "512 rows, every adapter has a party row, a party row alone, a party beside party 0");
+    assert_eq!(call(sheet(512, "party,1,7")), "3 by the 513th row, of a party");
+    assert_eq!(call(sheet(511, "party,1,7")), "3 by a second row, same party");
+    let line = |sheet: &str| shown("party ", &Case::new(1, LEAST_WORDS, "when http trigger", sheet));
+    assert_eq!(line("primary,0\nparty,0,7"), "53 by a row, 53 of party 0, 53 on a case line, 53 for accepted");
+    assert_eq!(line("primary,0\nparty,1,7\nadapter,1"), "a case with party rows, party 0 beside another");
+    let first = |words: usize, text: &[u8]| shown("party ", &Case::new(1, words, text, b"primary,0").with_party(7, 0));
+    assert_eq!([first(0, b""), first(LEAST_WORDS, b"\xff"), first(0, &[b' '; 16_385])], ["2 first", "4 first", "1 first"]);
+}
+
+/// What a reader says to which every adapter is the party's.
+fn without_parties(case: &Case) -> String {
+    let rows: Vec<&[u8]> = case.sheet.split(|&b| b == b'\n').filter(|row| !row.starts_with(b"party,")).collect();
+    second::answer(&Case { sheet: rows.join(&b'\n'), ..case.with_party(0, case.primary()) })
+}
+
+/// Readers in which something of another's shows: its rows in a detail, its adapter as a listed one, the sheet's primary.
+#[test]
+fn what_shows_of_another_party_is_found() {
+    let refused = |case: &Case, numbers: &[&str]| {
+        let answer = second::answer(case);
+        let leaks = numbers.iter().any(|number| answer.contains(&format!("\nrefused {number} ")));
+        if leaks { without_parties(case) } else { answer }
+    };
+    let in_details = |case: &Case| refused(case, &["32", "33", "34"]);
+    let as_listed = |case: &Case| refused(case, &["25"]);
+    let in_primary = |case: &Case| {
+        if second::answer(case).contains("refused 53") { return second::answer(case) }
+        second::answer(&case.with_party(case.party(), own_primary(&case.sheet)))
+    };
+    let leaking: [Reader; 3] = [&in_details, &as_listed, &in_primary];
+    for leaking in leaking {
+        let readers = Readers { second: leaking, in_domain: &|_| false, supplied: &second::answer, replay: None };
+        let plan = Plan { make: &generated, count: 30_000, batch: 1_000, threads: 1, progress: false };
+        let Outcome::Different(found) = run(&plan, &readers).unwrap() else { panic!("no difference") };
+        assert_eq!(found.other, Other::Beside);
+        let small = smallest(&found, &readers);
+        assert!(readers.differs(Other::Beside, &small.case) && small.case.text.len() + small.case.sheet.len() < 200, "{:?}", small.case);
+    }
+}
+
+/// Isolation of the second reader over generated pairs of sheets, in which names and adapters of others abound.
+#[test]
+fn a_party_sees_nothing_of_another() {
+    let mut sorts = std::collections::BTreeSet::new();
+    for case in (0..30_000).map(generated).filter(|case| contains(&case.sheet, b"\nparty,")) {
+        let answer = second::answer(&case);
+        if !past_question_3(&answer) {
+            continue;
+        }
+        let beside = generate::beside(&case);
+        assert_eq!(second::answer(&beside), answer, "{}", case.id);
+        let names = Features::of(&beside, &answer).members().map(feature_name);
+        sorts.extend(names.filter_map(|name| name.strip_prefix("party ").map(String::from)));
+    }
+    for sort in ["25 for accepted", "31 for accepted", "31 for 34", "33 for 34", "34 for another detail", "accepted for 34", "53 by a row"] {
+        assert!(sorts.contains(sort), "{sort}");
+    }
+}
+
 #[test]
 fn sizes_of_buffers_and_far_places_are_counted() {
     let shown = |words: usize, text: String| {
@@ -250,7 +369,7 @@ fn coverage_counts_cases_and_names_zeros() {
     assert_eq!((both.cases, both.in_domain, both.accepted, both.refused), (4, 2, 2, 2));
     let zeros = both.zeros();
     assert!(zeros.contains(&"refused 40".to_string()) && !zeros.contains(&"refused 41".to_string()));
-    assert_eq!(zeros.len(), feature_count() - 6);
+    assert_eq!(zeros.len(), feature_count() - 6 + 1);
 }
 
 #[test]

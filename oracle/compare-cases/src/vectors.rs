@@ -161,7 +161,8 @@ pub fn extended(mut cases: Vec<Case>, more: Vec<Case>) -> Vec<Case> {
 }
 
 fn at_least(feature: usize) -> usize {
-    if feature_name(feature).starts_with("buffer last ") { 1 } else { AT_LEAST }
+    let name = feature_name(feature);
+    if name.starts_with("buffer last ") || name == "party 1 first" { 1 } else { AT_LEAST }
 }
 
 /// The features that too few of the cases show.

@@ -92,6 +92,23 @@ pub fn bytes(rng: &mut Rng, bytes: &mut Vec<u8>) {
     }
 }
 
+/// One line deleted, doubled, moved or swapped with its neighbour: a doubled party row is bad, and another line may be first.
+pub fn lines(rng: &mut Rng, bytes: &mut Vec<u8>) {
+    let mut lines: Vec<&[u8]> = bytes.split_inclusive(|&b| b == b'\n').collect();
+    if lines.is_empty() {
+        return;
+    }
+    let at = rng.below(lines.len());
+    let other = rng.below(lines.len());
+    match rng.below(6) {
+        0 => drop(lines.remove(at)),
+        1 => lines.swap(at, other),
+        2 => { let next = (at + 1) % lines.len(); lines.swap(at, next) }
+        _ => lines.insert(other, lines[at]),
+    }
+    *bytes = lines.concat();
+}
+
 /// Bytes that are not UTF-8 somewhere, often between characters of several bytes, so that columns and bytes part.
 pub fn ill_formed(rng: &mut Rng, bytes: &mut Vec<u8>) {
     if rng.once_in(2) {

@@ -7,14 +7,17 @@ use cases::{Case, Habit, LEAST_WORDS};
 #[derive(Clone, Copy, PartialEq)]
 enum Place {
     Text,
-    Sheet,
+    /// A sheet, which is given with this text.
+    Sheet(&'static str),
 }
 
 /// One family of sequences. `most` bounds their length, since a wide vocabulary soon gives too many.
 struct Run {
     place: Place,
-    /// A `case` line for the archive habit, a `call` line for another.
+    /// Without a party: a `case` line for the archive habit, a `call` line for another.
     habit: Habit,
+    /// The party and the primary of a `call` line, for texts with the shared sheet.
+    call: Option<(u8, u8)>,
     prefix: &'static [u8],
     glue: &'static [u8],
     vocabulary: &'static [&'static [u8]],
@@ -34,6 +37,7 @@ macro_rules! text {
         Run {
             place: Place::Text,
             habit: $habit,
+            call: None,
             prefix: $prefix.as_bytes(),
             glue: b" ",
             vocabulary: $vocabulary,
@@ -43,10 +47,37 @@ macro_rules! text {
     };
 }
 
-/// The sheet of every run that is not about sheets: names with one row, with two on one adapter and on two, and an
+macro_rules! sheet {
+    ($call:expr, $text:expr, $prefix:expr, $most:expr, $vocabulary:expr) => {
+        Run {
+            place: Place::Sheet($text),
+            habit: Habit::Archive,
+            call: $call,
+            prefix: $prefix.as_bytes(),
+            glue: b"",
+            vocabulary: $vocabulary,
+            suffix: b"",
+            most: $most,
+        }
+    };
+}
+
+/// The sheet of every run that is about neither sheets nor parties: names with one row, with two on one adapter and on two, and an
 /// adapter that is not listed.
 const SHEET: &[u8] = b"primary,0\nadapter,0\nadapter,1\nlamp,0,4,a\nlamp,1,4,a\nlamp,1,7,b\nlamp,2,8,c\nlamp,0,1,d\n\
 lamp,0,2,d\ngroup,0,3,a\ngroup,0,3,a\ngroup,1,15,b\ninput,0,5,a\ninput,1,6,a\ninput,1,9,b\ndevice,0,63,a\n";
+
+/// A sheet of two parties, with names on one side, on both, and twice.
+const SHARED: &[u8] = b"primary,0\nadapter,0\nadapter,1\nlamp,2,5,a\nadapter,2\nparty,2,7\nparty,1,7\nlamp,0,4,a\nlamp,1,6,b\n\
+lamp,2,7,b\nlamp,0,8,c\nlamp,0,1,d\nlamp,0,2,d\nlamp,1,3,d\n";
+const REFERENCES: &[&[u8]] = pieces!["\"a\"", "\"b\"", "\"c\"", "\"d\"", "64", ", adapter=0", ", adapter=1", ", adapter=2",
+    ") turns on when lamp("];
+
+/// The text of the runs about sheets.
+const NAMED: &str = "when lamp(\"b\") turns on";
+const NAMED_ON_1: &str = "when lamp(\"b\", adapter=1) turns on";
+const PARTY_ROWS: &[&[u8]] = pieces!["party,1,7\n", "party,1,0\n", "party,0,7\n", "party,0,0\n", "adapter,0\n", "adapter,1\n",
+    "lamp,0,1,b\n", "lamp,1,2,b\n"];
 
 const WIDE: &[&[u8]] = pieces![
     "when", "if", "and", "timer", "fires", "rule", "fails", "controller", "starts", "becomes", "active", "http",
@@ -99,17 +130,28 @@ const RUNS: &[Run] = &[
     text!("when controller starts if input(1,2)", "", 5, pieces!["is", "occupied", ".", "light", "above", "below", "5", "-", "time",
         "now", "and"]),
     text!("when controller starts if last_fired(", "", 5, pieces!["\"r\"", "\"\"", ")", "older", "than", "5s", "5", "1.5"]),
-    Run { place: Place::Text, habit: Habit::Archive, prefix: b"", glue: b"", suffix: b"", most: 5, vocabulary: pieces![
+    Run { place: Place::Text, habit: Habit::Archive, call: None, prefix: b"", glue: b"", suffix: b"", most: 5,
+        vocabulary: pieces![
         "0", "5", ".", ":", "s", "m", "x", "\"", "#", "!", "=", ">", "_", "\n", "@", "\u{e9}"] },
-    Run { place: Place::Text, habit: Habit::Archive, prefix: b"when every ", glue: b"", suffix: b"", most: 5, vocabulary: pieces![
+    Run { place: Place::Text, habit: Habit::Archive, call: None, prefix: b"when every ", glue: b"", suffix: b"", most: 5,
+        vocabulary: pieces![
         "0", "1", ".", "4294967", "295", "0000000000", "00000000000000000000", "ms", "s", "h"] },
-    Run { place: Place::Text, habit: Habit::Archive, prefix: b"\"\xc3\xa9", glue: b"", suffix: b"\" @", most: 4, vocabulary: &[
+    Run { place: Place::Text, habit: Habit::Archive, call: None, prefix: b"\"\xc3\xa9", glue: b"", suffix: b"\" @", most: 4,
+        vocabulary: &[
         b"\x7f", b"\x80", b"\x8f", b"\x90", b"\x9f", b"\xa0", b"\xbf", b"\xc1", b"\xc2", b"\xe0", b"\xe1", b"\xed", b"\xef",
         b"\xf0", b"\xf4", b"\xf5"] },
-    Run { place: Place::Sheet, habit: Habit::Archive, prefix: b"primary,0\n", glue: b"", suffix: b"", most: 6, vocabulary: pieces![
-        "lamp", "adapter", ",", "0", "6", "a", "\"", "\n"] },
-    Run { place: Place::Sheet, habit: Habit::Archive, prefix: b"", glue: b"", suffix: b"", most: 6, vocabulary: pieces![
-        "primary", "adapter", ",", "0", "25", "\n", "lamp,0,1,b"] },
+    sheet!(None, NAMED, "primary,0\n", 6, pieces!["lamp", "adapter", ",", "0", "6", "a", "\"", "\n"]),
+    sheet!(None, NAMED, "", 6, pieces!["primary", "adapter", ",", "0", "25", "\n", "lamp,0,1,b"]),
+    sheet!(None, NAMED, "primary,0\n", 6, pieces!["party,", ",", "0", "1", "25", "\n"]),
+    sheet!(Some((7, 1)), NAMED, "primary,0\n", 5, PARTY_ROWS),
+    sheet!(Some((0, 0)), NAMED, "primary,1\n", 5, PARTY_ROWS),
+    sheet!(Some((7, 1)), NAMED_ON_1, "primary,0\n", 5, PARTY_ROWS),
+    sheet!(Some((0, 0)), NAMED_ON_1, "primary,1\n", 5, PARTY_ROWS),
+    Run { call: Some((0, 0)), ..text!("when lamp(", ") turns on", 5, REFERENCES) },
+    Run { call: Some((7, 1)), ..text!(Habit::Rule, "when lamp(", ") turns on", 5, REFERENCES) },
+    Run { call: Some((7, 2)), ..text!("when", "", 3, pieces!["scene(3) recalled", "input(group=4) is press", "lamp(5) turns on when",
+        "hcl override starts for broadcast", "scene(3, adapter=0) recalled", "input(group=4, adapter=1) is press",
+        "if hcl is enabled for broadcast"]) },
 ];
 
 fn size(run: &Run, length: usize) -> u64 {
@@ -146,11 +188,13 @@ pub fn exhaustive_case(length: usize, index: u64) -> Case {
         let here = size(run, length);
         if left < here {
             let made = sequence(run, length, left);
-            let (text, sheet) = match run.place {
-                Place::Text => (made, SHEET.to_vec()),
-                Place::Sheet => (b"when lamp(\"b\") turns on".to_vec(), made),
+            let (text, sheet) = match (run.place, run.call) {
+                (Place::Text, None) => (made, SHEET.to_vec()),
+                (Place::Text, Some(_)) => (made, SHARED.to_vec()),
+                (Place::Sheet(text), _) => (text.as_bytes().to_vec(), made),
             };
-            return Case::new(index, LEAST_WORDS, text, sheet).with_habit(run.habit);
+            let case = Case::new(index, LEAST_WORDS, text, sheet).with_habit(run.habit);
+            return run.call.map_or_else(|| case.clone(), |(party, primary)| case.with_party(party, primary));
         }
         left -= here;
     }

@@ -7,7 +7,7 @@
 
 use crate::durations;
 use crate::rng::Rng;
-use crate::sheet::{Kind, Sheet, KINDS};
+use crate::sheet::{Kind, Row, Sheet, KINDS};
 use crate::spell::Token;
 use crate::vocabulary::{
     DURATIONS, LONG_NAMES, LONG_VAR_TEXTS, NAMES, TIMES, VAR_TEXTS, WORDS, WRONG_DURATIONS, WRONG_TIMES,
@@ -198,7 +198,7 @@ impl<'a> Walk<'a> {
         self.say(word);
     }
 
-    fn decimal(&mut self, number: usize) {
+    pub(crate) fn decimal(&mut self, number: usize) {
         let digits = if self.rng.once_in(40) { format!("{number:012}") } else { number.to_string() };
         self.out.push(Cow::Owned(digits.into_bytes()));
     }
@@ -230,21 +230,21 @@ impl<'a> Walk<'a> {
         quoted(self.rng.pick(NAMES))
     }
 
-    /// A name of the sheet, mostly of the kind asked for, and the adapter of its row.
+    /// A name of the sheet, mostly of the kind asked for and on an adapter of the party's, and the adapter of its row.
     fn sheet_name(&mut self, kind: Kind) -> (Token, Option<u8>) {
         let kind = if self.slip() { self.rng.pick(&KINDS) } else { kind };
-        let of_kind = self.sheet.rows.iter().filter(|row| row.kind == kind).count();
-        if of_kind == 0 || self.rng.once_in(24) {
+        let (sheet, anyones) = (self.sheet, self.rng.once_in(8));
+        let rows: Vec<&Row> = sheet.rows.iter().filter(|row| row.kind == kind && (anyones || sheet.is_own(row.adapter))).collect();
+        if rows.is_empty() || self.rng.once_in(24) {
             return (self.any_name(), None);
         }
-        let nth = self.rng.below(of_kind);
-        let row = self.sheet.rows.iter().filter(|row| row.kind == kind).nth(nth).expect("counted");
+        let row = self.rng.pick(&rows);
         (quoted(row.name), Some(row.adapter))
     }
 
     /// A name or an id of a kind; the adapter that would suit it.
     pub(crate) fn name_or_id(&mut self, kind: Kind) -> Option<u8> {
-        let named = self.sheet.rows.iter().any(|row| row.kind == kind);
+        let named = self.sheet.rows.iter().any(|row| row.kind == kind && self.sheet.is_own(row.adapter));
         if self.rng.below(8) < if named { 5 } else { 1 } {
             let (name, adapter) = self.sheet_name(kind);
             self.out.push(name);
@@ -254,21 +254,28 @@ impl<'a> Walk<'a> {
         None
     }
 
-    /// An adapter: the one that suits, or any that is listed; now and then another.
+    /// An adapter: the one that suits, or any of the party's that is listed; now and then another's, or another number.
     pub(crate) fn adapter(&mut self, suiting: Option<u8>) {
         let odd = self.slip() || self.rng.once_in(24);
-        let listed = &self.sheet.listed;
+        let anothers = self.rng.once_in(12);
+        let listed = self.listed(!anothers);
         let number = match suiting {
             _ if odd => self.rng.pick(&[0, 1, 3, 7, 255, 256, 512]),
-            Some(adapter) if !self.rng.once_in(8) => usize::from(adapter),
-            _ if !listed.is_empty() => usize::from(self.rng.pick(listed)),
+            Some(adapter) if !anothers && !self.rng.once_in(5) => usize::from(adapter),
+            _ if !listed.is_empty() => usize::from(self.rng.pick(&listed)),
+            _ if self.rng.once_in(2) => usize::from(self.rng.pick(&self.sheet.adapters)),
             _ => self.rng.below(256),
         };
         self.decimal(number);
     }
 
+    /// The adapters that the sheet lists: the party's own, or those of others.
+    pub(crate) fn listed(&self, own: bool) -> Vec<u8> {
+        self.sheet.listed.iter().copied().filter(|&adapter| self.sheet.is_own(adapter) == own).collect()
+    }
+
     fn adapter_clause(&mut self, suiting: Option<u8>) {
-        if self.rng.once_in(3) && (!self.sheet.listed.is_empty() || self.rng.once_in(8)) {
+        if self.rng.once_in(3) && (!self.listed(true).is_empty() || self.rng.once_in(8)) {
             self.say(", adapter =");
             self.adapter(suiting);
             if self.slip() {
@@ -281,8 +288,10 @@ impl<'a> Walk<'a> {
     /// R of the grammar.
     fn reference(&mut self, kind: Kind) {
         self.say("(");
-        let adapter = self.name_or_id(kind);
-        self.adapter_clause(adapter);
+        if !self.name_on_both_sides(kind) {
+            let adapter = self.name_or_id(kind);
+            self.adapter_clause(adapter);
+        }
         self.say(")");
     }
 

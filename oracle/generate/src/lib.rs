@@ -6,7 +6,9 @@ mod damage;
 pub mod durations;
 mod exhaustive;
 mod grammar;
+mod isolation;
 mod large;
+mod parties;
 mod repeats;
 mod requests;
 mod rng;
@@ -18,11 +20,12 @@ pub mod vocabulary;
 mod tests;
 
 pub use exhaustive::{exhaustive, exhaustive_case, exhaustive_count};
+pub use isolation::beside;
 pub use large::landmarks;
 pub use requests::requests;
 pub use rng::Rng;
 
-use cases::{Case, Habit, Settings, FORMER_LEAST_WORDS, LEAST_WORDS, MOST_BYTES, MOST_WORDS};
+use cases::{Case, Habit, FORMER_LEAST_WORDS, LEAST_WORDS, MOST_BYTES, MOST_WORDS};
 use grammar::{Walk, NEVER, OFTEN, SELDOM};
 use sheet::Sheet;
 use spell::{spell, Token};
@@ -30,10 +33,14 @@ use spell::{spell, Token};
 /// The longest text that it takes, in bytes.
 const LONGEST_TEXT: usize = 16_384;
 
-/// The case `index` of the sequence that `seed` gives: a default call, or an archive call, on one line or the other.
+/// The case `index` of the sequence that `seed` gives: a default call, or an archive call, on one line or the other. The
+/// party and the primary of a `call` line are chosen for its sheet; the sheet of a `case` line seldom has party rows.
 pub fn case(seed: u64, index: u64) -> Case {
     let mut rng = Rng::new(seed, index);
-    let mut sheet = sheet::good(&mut rng);
+    let habit = rng.pick(&[None, Some(Habit::Archive), Some(Habit::Rule), Some(Habit::Rule)]);
+    let mut sheet = sheet::good(&mut rng, if habit.is_some() { 2 } else { 6 });
+    let settings = habit.map(|habit| parties::settings(&mut rng, habit, &sheet));
+    sheet.party = settings.as_ref().map_or(0, |settings| settings.party);
     let mut text = text(&mut rng, &sheet);
     spoil_sheet(&mut rng, &mut sheet);
     let mut words = words(&mut rng);
@@ -42,8 +49,6 @@ pub fn case(seed: u64, index: u64) -> Case {
     }
     text.truncate(MOST_BYTES);
     sheet.bytes.truncate(MOST_BYTES);
-    let habit = rng.pick(&[None, Some(Habit::Archive), Some(Habit::Rule), Some(Habit::Rule)]);
-    let settings = habit.map(|habit| Settings::plain(habit, &sheet.bytes));
     Case { settings, ..Case::new(index, words, text, sheet.bytes) }
 }
 
@@ -79,8 +84,8 @@ fn words(rng: &mut Rng) -> usize {
     }
 }
 
-/// Leaves most sheets as they are; the others are broken in one of the listed ways, or get a byte changed, or are as
-/// long as a sheet may be.
+/// Leaves most sheets as they are; the others are broken in one of the listed ways, or get a byte or a line changed, or are
+/// as long as a sheet may be.
 fn spoil_sheet(rng: &mut Rng, sheet: &mut Sheet) {
     match rng.below(400) {
         0..=15 => {
@@ -89,6 +94,7 @@ fn spoil_sheet(rng: &mut Rng, sheet: &mut Sheet) {
         }
         16..=21 => damage::bytes(rng, &mut sheet.bytes),
         22 => sheet.bytes = sheet::longest(),
+        23..=26 => damage::lines(rng, &mut sheet.bytes),
         _ => {}
     }
 }

@@ -7,6 +7,7 @@ pub fn requests() -> Vec<Case> {
     let mut cases = durations();
     cases.extend(records());
     cases.extend(repeats());
+    cases.extend(parties());
     cases
 }
 
@@ -147,4 +148,127 @@ fn repeats() -> Vec<Case> {
         Case { settings: Some(Settings::plain(habit, INPUTS)), ..Case::new(0, LEAST_WORDS, text, INPUTS) }
     };
     texts.flat_map(|text| [Habit::Rule, Habit::Archive].map(|habit| call(habit, &text))).collect()
+}
+
+/// The grocer's adapters 0, 2, 4 and 5, and the baker's, party 7: 1 and 3. Names on one side, on both, on one adapter and on two;
+/// a row above the party row of its adapter, a party row of party 0, and one of an adapter that nothing else names.
+const SHARED: &[u8] = b"primary,0\nadapter,0\nlamp,1,7,Till\nadapter,1\nadapter,2\nadapter,3\nparty,1,7\nparty,3,7\nparty,4,0\n\
+party,9,7\nlamp,0,8,Till\nlamp,1,9,Oven\nlamp,1,10,Bread\nlamp,1,11,Bread\nlamp,1,12,Ovens\nlamp,3,13,Ovens\nlamp,1,3,Twice\n\
+lamp,0,1,Twice\nlamp,0,2,Twice\nlamp,3,5,Wide\nlamp,0,4,Wide\nlamp,2,6,Wide\ngroup,2,6,Wide\ninput,1,6,Door\ninput,0,7,Door\n";
+
+/// Calls on that sheet: of both, with primaries of their own, and with others (53).
+const OWN_PRIMARIES: &[(u8, u8)] = &[(0, 0), (7, 1)];
+const OTHER_PRIMARIES: &[(u8, u8)] = &[(0, 1), (0, 9), (7, 0), (7, 4), (7, 255), (3, 0), (255, 200)];
+
+/// References to lamps: what each party has, has not, has once or more often, with each adapter.
+const LAMPS: &[&str] = &[
+    "\"Till\"", "\"Till\", adapter=0", "\"Till\", adapter=1", "\"Till\", adapter=2", "\"Till\", adapter=3", "\"Oven\"",
+    "\"Oven\", adapter=1", "\"Oven\", adapter=2", "\"Bread\"", "\"Bread\", adapter=1", "\"Ovens\"", "\"Ovens\", adapter=3",
+    "\"Twice\"", "\"Twice\", adapter=0", "\"Twice\", adapter=2", "\"Wide\"", "\"Wide\", adapter=2", "\"Wide\", adapter=3",
+    "\"Nobody\", adapter=1", "3", "3, adapter=1", "3, adapter=3", "64, adapter=1", "64, adapter=0", "3, adapter=4",
+    "3, adapter=5", "3, adapter=9", "3, adapter=256", "64",
+];
+
+/// Texts that name no adapter, for the primary of each call.
+const WITHOUT_ADAPTERS: &[&str] = &[
+    "when scene(3) recalled when lamp(5) turns on", "when input(group=4) is press when input(5, 6) is press",
+    "when input(group=4, type=light) is any_event if device(8) is online", "when hcl override clears for broadcast",
+    "when device(63) goes offline if hcl is enabled for broadcast",
+    "when input device(5) power cycled if var(\"v\") == lamp(9).level",
+    "when group(7) becomes all_off if lamp(1) is on and lamp(2).cct < input(3, 4).light + 5", "when input(\"Door\", 2) is press",
+];
+
+/// Texts with adapters and names of either party, in other places than a first trigger's lamp, and with a fault behind them.
+const OTHER_PLACES: &[&str] = &[
+    "when scene(3, adapter=1) recalled", "when scene(16, adapter=1) recalled", "when input(group=3, adapter=1) is press",
+    "when input(adapter=1, dev=64, inst=1) is press", "when input(\"Door\", 2, adapter=1) is press",
+    "when input(\"Door\", 2, adapter=0) is press", "when input device(\"Door\", adapter=3) power cycled",
+    "when group(\"Wide\") becomes any_on", "when hcl override starts for group(\"Wide\", adapter=1)",
+    "when lamp(3, adapter=1) turns up", "when lamp(\"Oven\", adapter=1) turns on when every 5ms",
+    "when http trigger if lamp(\"Bread\") is on", "when http trigger if sun is up and lamp(\"Ovens\") is on",
+    "when http trigger if var(\"v\") == lamp(\"Wide\").level", "when lamp(\"Till\") turns on then",
+];
+
+/// Texts beside 53: good, refused by the lexer, and refused later.
+const BESIDE_53: &[&str] = &["when http trigger", "when @", "when lamp(\"Nobody\") turns on"];
+
+/// Rows behind `primary,0`, with the party and the primary of a call on them.
+const PARTY_SHEETS: &[(&str, u8, u8)] = &[
+    // The primary: without any row, of a party row alone, of others.
+    ("", 0, 200), ("", 0, 255), ("", 3, 0), ("", 3, 200), ("party,9,3\n", 3, 9), ("party,9,3\n", 0, 9), ("party,9,3", 3, 0),
+    ("party,0,3\n", 0, 0), ("party,0,3\n", 0, 1), ("party,0,3\n", 3, 0), ("party,255,255\n", 255, 255),
+    ("party,0,255\nadapter,0\nlamp,0,5,b\n", 255, 0), ("party,0,0\n", 0, 0),
+    // What a second row for an adapter says, where it stands, and what is bad before it.
+    ("party,1,7\nparty,1,7\n", 0, 0), ("party,1,0\nlamp,1,1,b\nparty,1,0", 0, 0), ("party,1,7\nparty,1,8\n", 7, 1),
+    ("party,1,0\nparty,2,7\nparty,1,7\n", 0, 0), ("party,1,7\nparty,1,0\n", 0, 0),
+    ("party,0,255\nadapter,1\nparty,0,0\n", 255, 0), ("party,1,7\nparty,1,\nparty,1,7\n", 0, 0),
+    ("party,1,7\nparty,11,7\nparty,7,1\n", 0, 0),
+    // What the numbers of a row may be.
+    ("party,1,01\n", 0, 0), ("party,1,256\n", 0, 0), ("party,256,1\n", 0, 0), ("party,01,1\n", 0, 0), ("party,1,\n", 0, 0),
+    ("party,1\n", 0, 0), ("party,1,2,3\n", 0, 0), ("party,1,-1\n", 0, 0), ("party,1,10\n", 10, 1), ("Party,1,2\n", 0, 0),
+    ("party,1,7\nadapter,256\n", 7, 1),
+    // Names and adapters on either side of a party row.
+    ("lamp,1,7,b\nparty,1,7\n", 0, 0), ("lamp,1,7,b\nparty,1,7\n", 7, 1),
+    ("lamp,1,7,b\nadapter,1\nparty,1,7\nlamp,1,8,b\nlamp,0,9,b\n", 7, 1),
+    ("lamp,1,7,b\nadapter,1\nparty,1,7\nlamp,1,8,b\nlamp,0,9,b\n", 0, 0),
+];
+
+/// §6: party rows, calls of both parties and of neither, and primaries of their own, of others and of nobody.
+fn parties() -> Vec<Case> {
+    let on = |sheet: &[u8], (party, primary): (u8, u8), text: &str| {
+        Case::new(0, LEAST_WORDS, text, sheet).with_habit(Habit::Rule).with_party(party, primary)
+    };
+    let lamps = LAMPS.iter().map(|lamp| format!("when lamp({lamp}) turns on"));
+    let texts = lamps.chain([WITHOUT_ADAPTERS, OTHER_PLACES].concat().into_iter().map(String::from));
+    let mut cases: Vec<Case> = texts.flat_map(|text| OWN_PRIMARIES.iter().map(move |&call| on(SHARED, call, &text))).collect();
+    cases.extend(WITHOUT_ADAPTERS.iter().flat_map(|text| [(0, 2), (7, 3)].map(|call| on(SHARED, call, text))));
+    cases.extend(BESIDE_53.iter().flat_map(|text| OTHER_PRIMARIES.iter().map(|&call| on(SHARED, call, text))));
+    for (rows, party, primary) in PARTY_SHEETS {
+        cases.push(on(format!("primary,0\n{rows}").as_bytes(), (*party, *primary), "when lamp(\"b\") turns on when scene(3) recalled"));
+    }
+    cases.extend(unlisted_primaries());
+    cases.extend(first_questions());
+    cases.extend(most_party_rows());
+    // A `case` line has party 0 and the sheet's own primary, here of others and of party 0.
+    let sheets = [
+        "primary,0\nparty,0,3", "primary,1\nparty,1,7\n", "primary,2\nparty,1,7\n",
+        "primary,4\nparty,1,7\nparty,4,0\nlamp,4,7,b\nlamp,1,7,b\n",
+    ];
+    cases.extend(sheets.map(|sheet| Case::new(0, LEAST_WORDS, "when lamp(\"b\") turns on", sheet)));
+    cases
+}
+
+/// A primary is not thereby listed.
+fn unlisted_primaries() -> [Case; 3] {
+    [(0, 1), (0, 200), (7, 2)].map(|(party, primary)| {
+        let text = format!("when lamp(3, adapter={primary}) turns on");
+        Case::new(0, LEAST_WORDS, text, b"primary,0\nparty,2,7\n".as_slice()).with_habit(Habit::Rule).with_party(party, primary)
+    })
+}
+
+/// Questions 1 to 4 come before 53.
+fn first_questions() -> Vec<Case> {
+    let case = |words: usize, text: &[u8], sheet: &[u8]| Case::new(0, words, text, sheet).with_habit(Habit::Rule).with_party(0, 1);
+    vec![
+        case(LEAST_WORDS, &[b' '; 16_385], SHARED), case(0, b"when", SHARED), case(LEAST_WORDS - 1, b"\xff", SHARED),
+        case(LEAST_WORDS, b"when \xff", SHARED), case(LEAST_WORDS, b"\xc3", b"primary,0\nparty,1,7"),
+        case(LEAST_WORDS, b"\xff", b"primary,0\nparty,1,7\n\n"),
+    ]
+}
+
+/// A party row for each adapter, with 512 rows in all and with one more.
+fn most_party_rows() -> Vec<Case> {
+    let parties: String = (0..256).map(|adapter| format!("party,{adapter},{}\n", adapter % 3)).collect();
+    let listed: String = (0..255).map(|adapter| format!("adapter,{adapter}\n")).collect();
+    let sheet = |rows: [&str; 3]| format!("primary,0\n{}", rows.concat());
+    let last = "lamp,1,5,b\n";
+    let call = |sheet: String, party: u8, text: &str| {
+        Case::new(0, LEAST_WORDS, text, sheet).with_habit(Habit::Rule).with_party(party, party)
+    };
+    vec![
+        call(sheet([&parties, &listed, last]), 1, "when lamp(\"b\", adapter=1) turns on"),
+        call(sheet([&listed, last, &parties]), 2, "when lamp(\"b\", adapter=254) turns on"),
+        call(sheet([&listed, last, &(parties.clone() + "party,3,0\n")]), 0, "when http trigger"),
+        call(sheet([&parties, &listed, &(last.to_string() + "party,3,9")]), 0, "when http trigger"),
+    ]
 }

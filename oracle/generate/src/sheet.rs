@@ -1,5 +1,6 @@
 //! Name sheets: good ones, with what a text can take from them, and broken ones of every kind.
 
+use crate::parties::{self, Owned};
 use crate::rng::Rng;
 use crate::vocabulary::{NAMES, RAW_NAMES};
 use std::io::Write;
@@ -43,27 +44,60 @@ pub struct Sheet {
     pub bytes: Vec<u8>,
     pub rows: Vec<Row>,
     pub listed: Vec<u8>,
+    /// The adapter that the first line names.
+    pub primary: u8,
+    pub parties: Vec<Owned>,
+    /// Some adapter, those that its rows may be about, and those of its party rows.
+    pub adapters: Vec<u8>,
+    /// The party of the call that texts are for.
+    pub party: u8,
 }
 
 /// The bounds of document 01 for a sheet.
-const MOST_ROWS: usize = 512;
-const MOST_BYTES: usize = 16_384;
+pub const MOST_ROWS: usize = 512;
+pub const MOST_BYTES: usize = 16_384;
+
+/// A line behind the first.
+#[derive(Debug, Clone, Copy)]
+enum Line {
+    Adapter(u8),
+    Party(Owned),
+    Named(Row, usize),
+}
 
 impl Sheet {
     fn begin(&mut self, primary: u8) {
         put(&mut self.bytes, format_args!("primary,{primary}\n"));
+        self.primary = primary;
     }
 
-    fn list(&mut self, adapter: u8) {
-        put(&mut self.bytes, format_args!("adapter,{adapter}\n"));
-        self.listed.push(adapter);
+    fn add(&mut self, line: Line) {
+        match line {
+            Line::Adapter(adapter) => {
+                put(&mut self.bytes, format_args!("adapter,{adapter}\n"));
+                self.listed.push(adapter);
+            }
+            Line::Party((adapter, party)) => {
+                put(&mut self.bytes, format_args!("party,{adapter},{party}\n"));
+                self.parties.push((adapter, party));
+                self.adapters.push(adapter);
+            }
+            Line::Named(row, number) => {
+                put(&mut self.bytes, format_args!("{},{},{number},", row.kind.word(), row.adapter));
+                self.bytes.extend_from_slice(row.name);
+                self.bytes.push(b'\n');
+                self.rows.push(row);
+            }
+        }
     }
 
-    fn row(&mut self, row: Row, number: usize) {
-        put(&mut self.bytes, format_args!("{},{},{number},", row.kind.word(), row.adapter));
-        self.bytes.extend_from_slice(row.name);
-        self.bytes.push(b'\n');
-        self.rows.push(row);
+    pub fn party_of(&self, adapter: u8) -> u8 {
+        self.parties.iter().find(|row| row.0 == adapter).map_or(0, |row| row.1)
+    }
+
+    /// Whether the adapter is the party's that texts are for.
+    pub fn is_own(&self, adapter: u8) -> bool {
+        self.party_of(adapter) == self.party
     }
 }
 
@@ -117,40 +151,81 @@ fn random_row(rng: &mut Rng, palette: &Palette) -> (Row, usize) {
     (Row { kind, adapter: rng.pick(&palette.adapters), name: rng.pick(&palette.names) }, number)
 }
 
-/// A well-formed sheet.
-pub fn good(rng: &mut Rng) -> Sheet {
+/// A well-formed sheet, with party rows once in `seldom` times.
+pub fn good(rng: &mut Rng, seldom: usize) -> Sheet {
+    let shared = rng.once_in(seldom);
     let count = row_count(rng);
-    filled(rng, count)
+    // Party rows are to leave room for as many names as there are without them.
+    let more = if shared && (1..MOST_ROWS / 2).contains(&count) { 5 } else { 0 };
+    made(rng, count + more, shared)
 }
 
 /// A well-formed sheet of exactly `count` rows, if that is at most 512.
 pub fn filled(rng: &mut Rng, count: usize) -> Sheet {
+    let shared = rng.once_in(2);
+    made(rng, count, shared)
+}
+
+fn made(rng: &mut Rng, count: usize, shared: bool) -> Sheet {
     let palette = palette(rng, count);
-    let mut sheet = Sheet::default();
+    let listed = palette.adapters.iter().copied().filter(|_| !rng.once_in(8)).map(Line::Adapter).collect();
+    let parties = if shared { parties::rows(rng, &palette.adapters, count) } else { Vec::new() };
+    let mut sheet = Sheet { adapters: palette.adapters.to_vec(), ..Sheet::default() };
     sheet.begin(if rng.once_in(8) { adapter_number(rng) } else { palette.adapters[0] });
-    let late = rng.once_in(6);
-    let mut to_list: Vec<u8> = palette.adapters.iter().copied().filter(|_| !rng.once_in(8)).collect();
-    if !late {
-        while sheet.listed.len() < count && !to_list.is_empty() {
-            sheet.list(to_list.pop().expect("not empty"));
-        }
-    }
-    while sheet.listed.len() + sheet.rows.len() < count {
-        if late && rng.once_in(3) && !to_list.is_empty() {
-            sheet.list(to_list.pop().expect("not empty"));
-        } else if rng.once_in(12) && sheet.rows.last().is_some() {
-            let last = *sheet.rows.last().expect("not empty");
-            let number = rng.within(0, last.kind.last());
-            sheet.row(last, number);
-        } else {
-            let (row, number) = random_row(rng, &palette);
-            sheet.row(row, number);
-        }
+    for line in arranged(rng, &palette, count, [listed, parties.into_iter().map(Line::Party).collect()]) {
+        sheet.add(line);
     }
     if rng.once_in(3) {
         sheet.bytes.pop();
     }
     sheet
+}
+
+/// Exactly `count` lines: as many of both lists as fit, and names.
+fn arranged(rng: &mut Rng, palette: &Palette, count: usize, lists: [Vec<Line>; 2]) -> Vec<Line> {
+    let [mut listed, mut parties] = lists;
+    listed.truncate(count);
+    parties.truncate(count - listed.len());
+    let mut lines = named(rng, palette, count - listed.len() - parties.len());
+    put_among(rng, &mut lines, listed);
+    put_among(rng, &mut lines, parties);
+    lines
+}
+
+/// Rows with names; now and then one has the name and kind of the one before it, on its adapter or on another.
+fn named(rng: &mut Rng, palette: &Palette, count: usize) -> Vec<Line> {
+    let mut last = None;
+    let mut lines = Vec::with_capacity(count);
+    for _ in 0..count {
+        let (row, number) = match last {
+            Some(row) if rng.once_in(12) => numbered(rng, row),
+            Some(row) if rng.once_in(8) => {
+                let adapter = rng.pick(&palette.adapters);
+                numbered(rng, Row { adapter, ..row })
+            }
+            _ => random_row(rng, palette),
+        };
+        lines.push(Line::Named(row, number));
+        last = Some(row);
+    }
+    lines
+}
+
+fn numbered(rng: &mut Rng, row: Row) -> (Row, usize) {
+    (row, rng.within(0, row.kind.last()))
+}
+
+/// Mostly before the other lines, else behind or among them.
+fn put_among(rng: &mut Rng, lines: &mut Vec<Line>, more: Vec<Line>) {
+    match rng.below(6) {
+        0 => lines.extend(more),
+        1 | 2 => {
+            for line in more {
+                lines.insert(rng.within(0, lines.len()), line);
+            }
+        }
+        _ => drop(lines.splice(0..0, more)),
+    }
 }
 
 /// A sheet with good rows and exactly `length` bytes, which are at least 200.
@@ -191,6 +266,12 @@ const BROKEN_ROWS: &[&[u8]] = &[
     b"Lamp,0,1,a", b"lamps,0,1,a", b"lam,0,1,a", b" lamp,0,1,a", b"primary,0", b"primary,1", b"primary", b"\xff",
     b"lamp\0,0,1,a", b"lamp,0\r,1,a", b"#", b"lamp,0,\xd9\xa1,a", b"group,0,1\t,a", b"input,0,1", b"device,0", b"group",
     b"device,,1,a", b"input,0,,a", b"lamp,1e1,1,a", b"lamp,0,0x1,a", b"adapter,0255", b"lamp,0,063,a", b"group,0,015,a",
+    b"party", b"party,", b"party,1", b"party,200,", b"party,,1", b"party,,", b"party,200,01", b"party,200,00",
+    b"party,01,1", b"party,00,1", b"party,200,256", b"party,256,1", b"party,200,1000", b"party,200,4294967296",
+    b"party,4294967296,1", b"party,200,-1", b"party,200,+1", b"party,-1,1", b"party, 200,1", b"party,200, 1",
+    b"party,200,1 ", b"party,200,x", b"party,x,1", b"party,200,1,", b"party,200,1,2", b"party,200,1\r",
+    b"party,200,\"1\"", b"Party,200,1", b"parties,200,1", b"part,200,1", b" party,200,1", b"party 200,1",
+    b"party,200,0255", b"party,200,1\0", b"party,200,\xff",
 ];
 
 /// First lines that no sheet may have.
@@ -218,7 +299,25 @@ const BROKEN_WHOLES: &[fn(&mut Rng) -> Vec<u8>] = &[
     |rng| many_and(rng, 1, b""),
     |rng| { let bytes = filled(rng, MOST_ROWS + 1).bytes; insert_line(rng, &bytes, b"group,0,16,a") },
     |rng| without_first(&filled(rng, 4).bytes),
+    |rng| second_party(rng, 8, |rng, _| parties::any(rng)),
+    |rng| second_party(rng, 8, |_, first| first),
+    |rng| second_party(rng, 8, |_, _| 0),
+    |rng| second_party(rng, MOST_ROWS - 1, |_, first| first),
+    |rng| second_party(rng, MOST_ROWS, |rng, _| parties::any(rng)),
+    |rng| { let bytes = second_party(rng, 8, |_, first| first); insert_line(rng, &bytes, b"party,256,1") },
+    |rng| many_and(rng, MOST_ROWS, b"party,200,7"),
 ];
+
+/// A sheet of `count` rows, and with them a second row for the adapter of a party row.
+fn second_party(rng: &mut Rng, count: usize, party: fn(&mut Rng, u8) -> u8) -> Vec<u8> {
+    let mut sheet = made(rng, count, true);
+    while sheet.parties.is_empty() {
+        sheet = made(rng, count, true);
+    }
+    let (adapter, first) = rng.pick(&sheet.parties);
+    let line = format!("party,{adapter},{}", party(rng, first));
+    insert_line(rng, &sheet.bytes, line.as_bytes())
+}
 
 /// The number of kinds of broken sheet.
 pub const BREAKS: usize = BROKEN_ROWS.len() + BROKEN_FIRSTS.len() + BROKEN_WHOLES.len();

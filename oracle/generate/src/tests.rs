@@ -79,13 +79,14 @@ fn sizes_around_every_limit_come_up() {
     assert!(rows.contains(&513) && rows.contains(&514), "512 and 513 rows");
 }
 
-/// What document 01 asks of a sheet, written plainly; the generator's good sheets meet it and its broken ones do not.
+/// What the documents ask of a sheet, written plainly; the generator's good sheets meet it and its broken ones do not.
 fn well_formed(sheet: &[u8]) -> bool {
     let body = sheet.strip_suffix(b"\n").unwrap_or(sheet);
     let mut lines = body.split(|&b| b == b'\n');
     let first = lines.next().unwrap_or_default().strip_prefix(b"primary,");
     let rows: Vec<&[u8]> = lines.collect();
-    sheet.len() <= 16_384 && rows.len() <= 512 && first.is_some_and(|n| number(n, 255)) && rows.iter().all(|row| row_fits(row))
+    let lines_fit = first.is_some_and(|n| number(n, 255)) && rows.iter().all(|row| row_fits(row));
+    sheet.len() <= 16_384 && rows.len() <= 512 && lines_fit && parties_differ(&rows)
 }
 
 fn number(field: &[u8], last: usize) -> bool {
@@ -93,10 +94,18 @@ fn number(field: &[u8], last: usize) -> bool {
     plain && std::str::from_utf8(field).is_ok_and(|digits| digits.parse::<usize>().is_ok_and(|n| n <= last))
 }
 
+/// No adapter has two party rows.
+fn parties_differ(rows: &[&[u8]]) -> bool {
+    let parties = rows.iter().filter(|row| row.starts_with(b"party,"));
+    let adapters: Vec<&[u8]> = parties.filter_map(|row| row.split(|&b| b == b',').nth(1)).collect();
+    adapters.iter().enumerate().all(|(at, adapter)| !adapters[..at].contains(adapter))
+}
+
 fn row_fits(row: &[u8]) -> bool {
     let fields: Vec<&[u8]> = row.split(|&b| b == b',').collect();
     match fields[..] {
         [b"adapter", adapter] => number(adapter, 255),
+        [b"party", adapter, party] => number(adapter, 255) && number(party, 255),
         [kind, adapter, n, name] => {
             let last = match kind { b"group" => 15, b"lamp" | b"device" | b"input" => 63, _ => return false };
             number(adapter, 255) && number(n, last) && (1..=48).contains(&name.len()) && !name.contains(&b'"')
@@ -108,7 +117,7 @@ fn row_fits(row: &[u8]) -> bool {
 #[test]
 fn good_sheets_are_well_formed() {
     for index in 0..5_000 {
-        let sheet = sheet::good(&mut Rng::new(SEED, index));
+        let sheet = sheet::good(&mut Rng::new(SEED, index), 2);
         assert!(well_formed(&sheet.bytes), "{index}");
     }
     assert!(well_formed(&sheet::longest()) && sheet::longest().len() == 16_384);
@@ -127,6 +136,50 @@ fn broken_sheets_are_broken_in_every_way() {
     }
 }
 
+/// What a party's call may see of a sheet: which adapters are the party's, and their rows.
+fn seen(sheet: &[u8], party: u8) -> (Vec<bool>, Vec<Vec<u8>>) {
+    let field = |row: &[u8], nth: usize| row.split(|&b| b == b',').nth(nth).map(|field| String::from_utf8_lossy(field).into_owned());
+    let rows: Vec<&[u8]> = sheet.split(|&b| b == b'\n').skip(1).filter(|row| !row.is_empty()).collect();
+    let of = |adapter: &str| {
+        let row = rows.iter().find(|row| row.starts_with(format!("party,{adapter},").as_bytes()));
+        row.map_or("0".to_string(), |row| field(row, 2).unwrap_or_default()) == party.to_string()
+    };
+    let own = (0..256).map(|adapter| of(&adapter.to_string())).collect();
+    let theirs = |row: &&&[u8]| !row.starts_with(b"party,") && of(&field(row, 1).unwrap_or_default());
+    (own, rows.iter().filter(theirs).map(|row| row.to_vec()).collect())
+}
+
+#[test]
+fn a_sheet_beside_agrees_for_the_party_and_is_another_sheet() {
+    let (mut seen_others, mut without_others, mut other) = (0, 0, 0);
+    for case in (0..6_000).map(|index| case(SEED, index)).filter(|case| well_formed(&case.sheet)) {
+        let beside = beside(&case);
+        assert!(well_formed(&beside.sheet), "{}", case.id);
+        assert_eq!((beside.party(), beside.primary(), beside.habit()), (case.party(), case.primary(), case.habit()));
+        assert_eq!((&beside.text, beside.words, beside.id), (&case.text, case.words, case.id));
+        if case.sheet.len() < 1_000 {
+            let view = seen(&case.sheet, case.party());
+            assert_eq!(seen(&beside.sheet, case.party()), view, "{}", case.id);
+            seen_others += usize::from(view.0.contains(&false));
+            without_others += usize::from(!view.0.contains(&false));
+        }
+        other += usize::from(beside.sheet != case.sheet);
+    }
+    assert!(seen_others > 1_500 && without_others > 1_500 && other > 5_000, "{seen_others} {without_others} {other}");
+    let full = Case::new(1, 0, [], sheet::longest());
+    assert!(well_formed(&super::beside(&full).sheet));
+}
+
+#[test]
+fn calls_of_several_parties_and_primaries_come_up() {
+    let cases: Vec<Case> = (0..10_000).map(|index| case(SEED, index)).collect();
+    let count = |sort: fn(&&Case) -> bool| cases.iter().filter(sort).count();
+    assert!(count(|case| case.party() != 0) > 1_000);
+    assert!(count(|case| case.party() == 0 && case.settings.is_some() && contains(&case.sheet, b"party,")) > 1_000);
+    assert!(count(|case| case.primary() != cases::own_primary(&case.sheet)) > 2_000);
+    assert!(count(|case| case.settings.is_none() && contains(&case.sheet, b"party,")) > 200);
+}
+
 #[test]
 fn most_sheets_are_good_and_most_texts_short() {
     let cases: Vec<Case> = (0..10_000).map(|index| case(SEED, index)).collect();
@@ -139,8 +192,8 @@ fn most_sheets_are_good_and_most_texts_short() {
 #[test]
 fn the_sequences_differ_and_hold_whole_forms() {
     for length in 0..=2 {
-        let mut seen: Vec<(cases::Habit, Vec<u8>, Vec<u8>)> =
-            exhaustive(length).map(|case| (case.habit(), case.text, case.sheet)).collect();
+        let mut seen: Vec<(cases::Habit, u8, Vec<u8>, Vec<u8>)> =
+            exhaustive(length).map(|case| (case.habit(), case.party(), case.text, case.sheet)).collect();
         assert_eq!(seen.len() as u64, exhaustive_count(length));
         seen.sort();
         seen.dedup();

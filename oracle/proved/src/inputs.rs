@@ -1,13 +1,16 @@
 //! The rules and sheets that the speed of whole calls is measured on, and what both readers say of them.
 
-use cases::{Case, RECORD};
+use crate::Shared;
+use cases::{own_primary, Case, RECORD};
 
-/// A rule text and a sheet, with the name that the table gives them.
+/// A rule text and a sheet with the party and the primary of the call, and the name that the table gives them.
 #[derive(Debug)]
 pub struct Input {
     pub name: &'static str,
     pub text: String,
     pub sheet: String,
+    pub party: u8,
+    pub primary: u8,
 }
 
 pub const WORDS: usize = cases::LEAST_WORDS;
@@ -101,6 +104,8 @@ input,0,32,Front door
 input,1,30,Till button
 ";
 const BRANCH_ROWS: usize = 40;
+const MOST_ROWS: usize = 512;
+const GROCER: u8 = 7;
 
 /// The branch with lamps on further adapters: so many rows, and so many bytes in all.
 fn sheet(rows: usize, bytes: usize) -> String {
@@ -110,6 +115,21 @@ fn sheet(rows: usize, bytes: usize) -> String {
         let row = format!("lamp,{},{},Shelf {lamp} {:.<48}", 2 + lamp / 64, lamp % 64, "");
         sheet += &row[..room - 1];
         sheet += "\n";
+    }
+    sheet
+}
+
+/// The branch's adapters 0 and 1 are the grocer's, party 7, and every other adapter of some other party; behind them lamps on
+/// those, up to 512 rows.
+fn shared() -> String {
+    let mut sheet = BRANCH.to_string();
+    for adapter in 0..=255 {
+        let party = if adapter < 2 { GROCER } else { adapter % GROCER };
+        sheet += &format!("party,{adapter},{party}\n");
+    }
+    let lamps = MOST_ROWS - BRANCH_ROWS - 256;
+    for lamp in 0..lamps {
+        sheet += &format!("lamp,{},{},Counter {lamp}\n", 2 + lamp % 64, lamp % 64);
     }
     sheet
 }
@@ -129,9 +149,11 @@ fn repeated(argument: &str) -> String {
 
 pub fn all() -> Vec<Input> {
     let large = sheet(400, 10_000);
-    let largest = sheet(512, LONGEST);
+    let largest = sheet(MOST_ROWS, LONGEST);
     let long_name = format!("{:8}dev=\"{:.<48}\",\n", "", "Refrigerated aisle, door 4");
-    let input = |name, text: &str, sheet: &str| Input { name, text: text.to_string(), sheet: sheet.to_string() };
+    let input = |name, text: &str, sheet: &str| {
+        Input { name, text: text.to_string(), sheet: sheet.to_string(), party: 0, primary: own_primary(sheet.as_bytes()) }
+    };
     vec![
         input("small", SMALL, NO_NAMES),
         input("closing", CLOSING, BRANCH),
@@ -147,6 +169,7 @@ pub fn all() -> Vec<Input> {
         input("refused-name", &CLOSING.replace("rule(\"Stocktaking\") is enabled", "lamp(\"Till 9\") is on"), BRANCH),
         input("refused-token", &format!("{CLOSING}@\n"), BRANCH),
         input("refused-sheet", CLOSING, &format!("{large}lamp,0,64,Till\n")),
+        Input { party: GROCER, ..input("closing-most-party-rows", CLOSING, &shared()) },
     ]
 }
 
@@ -159,12 +182,16 @@ impl Input {
         self.sheet.lines().count() - 1
     }
 
+    pub fn shared(&self) -> Shared<'_> {
+        Shared { sheet: self.sheet.as_bytes(), party: self.party, primary: self.primary }
+    }
+
     /// What the proved reader says, in the last lines' words of the replay format: `accepted` and both counts, or `refused` and
     /// the refusal. With it the count of the records that it wrote.
     pub fn proved(&self) -> (String, usize) {
         let mut words = vec![UNTOUCHED; WORDS];
         let mut answer = [UNTOUCHED; ANSWER];
-        let number = crate::read_archive(self.text.as_bytes(), self.sheet.as_bytes(), &mut words, &mut answer);
+        let number = crate::read_archive(self.text.as_bytes(), self.shared(), &mut words, &mut answer);
         assert_eq!(number, answer[0], "{}", self.name);
         let said = match answer[..6] {
             [0, 0, 0, 0, triggers, conditions] => format!("accepted {triggers} {conditions}"),
@@ -177,11 +204,11 @@ impl Input {
     /// What the supplied Rust says, in the same words. The call that is timed must say it too.
     pub fn supplied(&self) -> String {
         let (text, sheet) = (self.text.as_bytes(), self.sheet.as_bytes());
-        let case = Case::new(0, WORDS, text, sheet);
+        let case = Case::new(0, WORDS, text, sheet).with_party(self.party, self.primary);
         let answer = supplied::answer(&case);
         let verdict = |line: &&str| line.starts_with("accepted") || line.starts_with("refused");
         let said = answer.lines().find(verdict).expect("the case is in the domain").to_string();
-        match supplied::plain_call(text, sheet) {
+        match supplied::plain_call(text, sheet, self.party, self.primary) {
             Ok((triggers, conditions)) => {
                 assert_eq!(said, format!("accepted {} {}", triggers.len(), conditions.len()), "{}", self.name);
             }
@@ -220,8 +247,13 @@ mod tests {
         assert_eq!((sizes("longest-tokens").0, sizes("longest-tokens").1), (LONGEST, 1_024));
         assert_eq!(sizes("most-tokens").1, 1_024);
         assert_eq!(sizes("largest-all"), (LONGEST, 1_024, LONGEST, 512));
+        let shared = named("closing-most-party-rows").expect("it is among them");
+        assert_eq!(shared.sheet.lines().filter(|row| row.starts_with("party,")).count(), 256);
+        assert!(all().iter().all(|input| input.primary == own_primary(input.sheet.as_bytes())));
+        assert_eq!(all().iter().filter(|input| input.party != 0).count(), 1);
         let said: Vec<String> = all().iter().map(|input| input.proved().0).collect();
         assert!(said[..11].iter().all(|said| said.starts_with("accepted")), "{said:?}");
-        assert_eq!(said[11..], ["refused 31 8 10 0", "refused 10 9 1 0", "refused 3 402 0 0"]);
+        assert_eq!(said[11..14], ["refused 31 8 10 0", "refused 10 9 1 0", "refused 3 402 0 0"]);
+        assert_eq!((said[14].as_str(), sizes("closing-most-party-rows").3), ("accepted 3 4", MOST_ROWS));
     }
 }

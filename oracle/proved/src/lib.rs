@@ -1,5 +1,5 @@
-//! The proved lexer and the whole call as Rust functions, the comparison of the first with the supplied Rust and the second
-//! reader, and what the speed of both is measured on.
+//! The proved lexer and the whole calls as Rust functions, the comparison of the first with the supplied Rust and the second
+//! reader, the test that a party's call sees nothing of another's rows, and what the speed is measured on.
 
 pub mod agree;
 pub mod coverage;
@@ -7,6 +7,8 @@ pub mod inputs;
 pub mod short;
 pub mod texts;
 
+#[cfg(test)]
+mod isolation;
 #[cfg(test)]
 mod tests;
 
@@ -21,16 +23,33 @@ extern "C" {
         answer_length: usize,
     ) -> u32;
 
-    fn tergyosul_read_archive(
+    fn tergyosul_read(
         text: *const u8,
         text_length: usize,
         sheet: *const u8,
         sheet_length: usize,
+        party: u8,
+        primary: u8,
         words: *mut u32,
         words_length: usize,
         answer: *mut u32,
         answer_length: usize,
     ) -> u32;
+
+    fn tergyosul_read_archive(
+        text: *const u8,
+        text_length: usize,
+        sheet: *const u8,
+        sheet_length: usize,
+        party: u8,
+        primary: u8,
+        words: *mut u32,
+        words_length: usize,
+        answer: *mut u32,
+        answer_length: usize,
+    ) -> u32;
+
+    fn tergyosul_sheet_primary(sheet: *const u8, sheet_length: usize) -> u32;
 }
 
 /// What a call answers beside the records in the words.
@@ -68,10 +87,38 @@ pub fn lex_into(text: &[u8], words: &mut [u32], answer: &mut [u32]) -> u32 {
     }
 }
 
-/// The whole call of the archive loader, since the supplied Rust has its habit too: reads a rule text with a name sheet, and a
-/// repeated argument of `input(` replaces the earlier one. The layout of the answer is include/tergyosul.h's; with one of fewer
-/// than 108 words nothing is read or written.
-pub fn read_archive(text: &[u8], sheet: &[u8], words: &mut [u32], answer: &mut [u32]) -> u32 {
+/// A name sheet, and the party and the primary of a call on it.
+#[derive(Debug, Clone, Copy)]
+pub struct Shared<'a> {
+    pub sheet: &'a [u8],
+    pub party: u8,
+    pub primary: u8,
+}
+
+/// The default call: reads a rule text with a name sheet, and refuses a repeated argument of `input(`. The layout of the answer is
+/// include/tergyosul.h's; with one of fewer than 108 words nothing is read or written.
+pub fn read(text: &[u8], shared: Shared, words: &mut [u32], answer: &mut [u32]) -> u32 {
+    let Shared { sheet, party, primary } = shared;
+    // SAFETY: each pointer and length is a slice that is borrowed for the call, and the two mutable ones overlap nothing.
+    unsafe {
+        tergyosul_read(
+            text.as_ptr(),
+            text.len(),
+            sheet.as_ptr(),
+            sheet.len(),
+            party,
+            primary,
+            words.as_mut_ptr(),
+            words.len(),
+            answer.as_mut_ptr(),
+            answer.len(),
+        )
+    }
+}
+
+/// The archive loader's call, whose habit the supplied Rust has too: a repeated argument replaces the earlier one.
+pub fn read_archive(text: &[u8], shared: Shared, words: &mut [u32], answer: &mut [u32]) -> u32 {
+    let Shared { sheet, party, primary } = shared;
     // SAFETY: each pointer and length is a slice that is borrowed for the call, and the two mutable ones overlap nothing.
     unsafe {
         tergyosul_read_archive(
@@ -79,10 +126,18 @@ pub fn read_archive(text: &[u8], sheet: &[u8], words: &mut [u32], answer: &mut [
             text.len(),
             sheet.as_ptr(),
             sheet.len(),
+            party,
+            primary,
             words.as_mut_ptr(),
             words.len(),
             answer.as_mut_ptr(),
             answer.len(),
         )
     }
+}
+
+/// The adapter that a sheet's first line names, 0 where it names none.
+pub fn sheet_primary(sheet: &[u8]) -> u32 {
+    // SAFETY: the pointer and the length are a slice that is borrowed for the call.
+    unsafe { tergyosul_sheet_primary(sheet.as_ptr(), sheet.len()) }
 }

@@ -20,6 +20,7 @@ use cases::{Case, Habit, Lexing, LEAST_WORDS};
 use model::Lists;
 use reader::{Read, Reader, Repeats};
 use refusal::{Place, Refusal};
+use sheet::View;
 
 const MOST_TEXT: usize = 16_384;
 
@@ -40,13 +41,14 @@ pub fn answer(case: &Case) -> String {
 /// Document 01's domain of the comparison: "accepted sheets, texts past questions 1 to 4 and 19, no duration of 20 or
 /// more fractional digits, and no text on which the Rust reaches a left-out form"; less, by document 02 §2, "texts with a
 /// duration that the old first 17 refuses", whatever is answered now; and by §11 "the Rust comparison runs on the archive
-/// call".
+/// call". By §6 the Rust's resolver gets the party's rows and the call's primary, "in calls whose primary is the party's": not
+/// for 53.
 pub fn in_domain(case: &Case) -> bool {
     if case.habit() != Habit::Archive {
         return false;
     }
     let outcome = read(case);
-    let asked_of_both = |refusal: &Refusal| !matches!(refusal.number, 1..=4 | 19 | 40);
+    let asked_of_both = |refusal: &Refusal| !matches!(refusal.number, 1..=4 | 19 | 40 | 53);
     !outcome.formerly_17 && outcome.result.as_ref().err().is_none_or(asked_of_both)
 }
 
@@ -75,16 +77,16 @@ fn lexing_with(records: Vec<[u32; cases::RECORD]>, number: u32, place: Place) ->
     Lexing { records, number, line: place.line, column: place.column }
 }
 
-/// One call: the questions 1 to 4, the lexing of the whole text, then the parsing.
+/// One call: the questions 1 to 4 and 53, the lexing of the whole text, then the parsing.
 fn read(case: &Case) -> Outcome<'_> {
     let mut buffer = Buffer::new(case.words);
-    let (sheet, text) = match admit(case, &buffer) {
+    let (view, text) = match admit(case, &buffer) {
         Ok(admitted) => admitted,
         Err(refusal) => return Outcome { buffer, result: Err(refusal), formerly_17: false },
     };
     let lexed = lexer::lex(text);
     buffer.write(&lexed.tokens);
-    let result = lexed.end.and_then(|end| Reader::new(text, lexed.tokens, end, sheet, repeats(case)).sections());
+    let result = lexed.end.and_then(|end| Reader::new(text, lexed.tokens, end, view, repeats(case)).sections());
     Outcome { buffer, result, formerly_17: lexed.formerly_17 }
 }
 
@@ -96,12 +98,14 @@ fn repeats(case: &Case) -> Repeats {
     }
 }
 
-/// The questions 1 to 4, in this order.
-fn admit<'a>(case: &'a Case, buffer: &Buffer) -> Read<(sheet::Sheet<'a>, &'a str)> {
+/// The questions 1 to 4, in this order; then "it refuses a primary that is not the party's with 53, at 0:0, after question 4",
+/// document 02 §6.
+fn admit<'a>(case: &'a Case, buffer: &Buffer) -> Read<(View<'a>, &'a str)> {
     room(&case.text, buffer.len())?;
     let sheet = sheet::read(&case.sheet).map_err(|line| Refusal::new(3, Place { line, column: 0 }))?;
     let text = well_formed(&case.text).map_err(|place| Refusal::new(4, place))?;
-    Ok((sheet, text))
+    let view = sheet.seen_by(case.party().into(), case.primary().into()).ok_or(Refusal::new(53, Place::NONE))?;
+    Ok((view, text))
 }
 
 /// The questions 1 and 2; "the buffer at least 5,120 (question 2)", document 02 §5.

@@ -3,7 +3,7 @@
 use crate::lexer::{Kind, Token};
 use crate::model::Choice;
 use crate::refusal::{Place, Refusal};
-use crate::sheet::Sheet;
+use crate::sheet::View;
 
 /// What a part of the parser gives.
 pub type Read<T> = Result<T, Refusal>;
@@ -18,18 +18,19 @@ pub enum Repeats {
     Replace,
 }
 
-/// The parser: a list of tokens with the text they are from, where it stands in it, the name sheet, and the call's habit.
+/// The parser: a list of tokens with the text they are from, where it stands in it, what the call sees of the sheet, and its
+/// habit.
 pub struct Reader<'a> {
     text: &'a str,
     tokens: Vec<Token>,
     next: usize,
     end: Place,
-    pub sheet: Sheet<'a>,
+    pub sheet: View<'a>,
     pub repeats: Repeats,
 }
 
 impl<'a> Reader<'a> {
-    pub fn new(text: &'a str, tokens: Vec<Token>, end: Place, sheet: Sheet<'a>, repeats: Repeats) -> Reader<'a> {
+    pub fn new(text: &'a str, tokens: Vec<Token>, end: Place, sheet: View<'a>, repeats: Repeats) -> Reader<'a> {
         Reader { text, tokens, next: 0, end, sheet, repeats }
     }
 

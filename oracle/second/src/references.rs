@@ -104,7 +104,7 @@ impl<'a> Reader<'a> {
         if self.sheet.listed.contains(&adapter) { Ok(adapter) } else { Err(Refusal::new(25, place)) }
     }
 
-    /// "An id, address, scene or instance group without an adapter takes the primary."
+    /// "An id, address, scene or instance group without an adapter takes the primary": the call's.
     pub fn or_primary(&self, adapter: Option<u32>) -> u32 {
         adapter.unwrap_or(self.sheet.primary)
     }

@@ -1,8 +1,12 @@
-//! The name sheet.
+//! The name sheet, and what a call sees of it.
+
+use std::collections::BTreeMap;
 
 const MOST_BYTES: usize = 16_384;
 const MOST_ROWS: usize = 512;
 const MOST_NAME: usize = 48;
+/// The highest adapter and the highest party.
+const HIGHEST: u32 = 255;
 
 /// What a row names, and what a reference points at.
 #[derive(Debug, Clone, Copy, PartialEq, Eq)]
@@ -42,10 +46,21 @@ pub struct Row<'a> {
     pub name: &'a [u8],
 }
 
+/// A sheet whose lines are all well formed. The adapter that its first line names is not kept: every call names its own.
 #[derive(Debug, Default)]
 pub struct Sheet<'a> {
-    pub primary: u32,
     /// The adapters of the `adapter` rows: only these are listed.
+    listed: Vec<u32>,
+    rows: Vec<Row<'a>>,
+    /// The party of each adapter that a `party` row names.
+    parties: BTreeMap<u32, u32>,
+}
+
+/// What a call sees of a sheet. "A call names its party and its own primary adapter, which stands in for the sheet's", and "only
+/// rows on the party's adapters are candidates, and another's adapter counts as not listed", document 02 §6.
+#[derive(Debug)]
+pub struct View<'a> {
+    pub primary: u32,
     pub listed: Vec<u32>,
     pub rows: Vec<Row<'a>>,
 }
@@ -71,20 +86,42 @@ impl<'a> Sheet<'a> {
     fn add(&mut self, before: usize, line: &'a [u8]) -> bool {
         let fields: Vec<&[u8]> = line.split(|&b| b == b',').collect();
         match fields[..] {
-            [b"primary", adapter] if before == 0 => decimal(adapter, 255).map(|a| self.primary = a).is_some(),
+            [b"primary", adapter] if before == 0 => decimal(adapter, HIGHEST).is_some(),
             _ if before == 0 => false,
-            [b"adapter", adapter] => decimal(adapter, 255).map(|a| self.listed.push(a)).is_some(),
+            [b"adapter", adapter] => decimal(adapter, HIGHEST).map(|a| self.listed.push(a)).is_some(),
+            [b"party", adapter, party] => self.assign(adapter, party),
             [kind, adapter, number, name] => {
                 row(kind, adapter, number, name).map(|row| self.rows.push(row)).is_some()
             }
             _ => false,
         }
     }
+
+    /// Takes a row `party,A,P`; "a second such row for one is a bad line (3)", whatever party it names.
+    fn assign(&mut self, adapter: &[u8], party: &[u8]) -> bool {
+        match (decimal(adapter, HIGHEST), decimal(party, HIGHEST)) {
+            (Some(adapter), Some(party)) => self.parties.insert(adapter, party).is_none(),
+            _ => false,
+        }
+    }
+
+    /// "Rows `party,A,P` say whose an adapter is; without one it is party 0's."
+    fn party_of(&self, adapter: u32) -> u32 {
+        self.parties.get(&adapter).copied().unwrap_or(0)
+    }
+
+    /// What the party's call with this primary sees; nothing if the primary is not the party's (53).
+    pub fn seen_by(&self, party: u32, primary: u32) -> Option<View<'a>> {
+        let own = |adapter: u32| self.party_of(adapter) == party;
+        let listed = self.listed.iter().copied().filter(|&adapter| own(adapter)).collect();
+        let rows = self.rows.iter().copied().filter(|row| own(row.adapter)).collect();
+        own(primary).then_some(View { primary, listed, rows })
+    }
 }
 
 fn row<'a>(kind: &[u8], adapter: &[u8], number: &[u8], name: &'a [u8]) -> Option<Row<'a>> {
     let kind = Kind::of(kind)?;
-    let adapter = decimal(adapter, 255)?;
+    let adapter = decimal(adapter, HIGHEST)?;
     let number = decimal(number, kind.highest())?;
     let fits = (1..=MOST_NAME).contains(&name.len()) && !name.contains(&b'"');
     fits.then_some(Row { kind, adapter, number, name })

@@ -1,16 +1,22 @@
-//! The twelve pairs of document 01.
+//! The twelve pairs of document 01. "The twelve pairs have party 0, primary 0", document 02 §6.
 
 mod common;
+use cases::Case;
 use common::*;
+
+fn call(text: &str) -> Case {
+    case(text.as_bytes(), S.as_bytes()).with_party(0, 0)
+}
 
 /// The kinds and numbers of a text's tokens.
 fn kinds(text: &str) -> String {
-    let tokens = tokens(&case(text.as_bytes(), S.as_bytes()));
+    let tokens = tokens(&call(text));
     let two = |line: &String| line.split(' ').take(2).collect::<Vec<_>>().join(" ");
     tokens.iter().map(two).collect::<Vec<_>>().join(", ")
 }
 
 fn says(text: &str, expected: &str) {
+    assert_eq!(verdict_of(&call(text)), expected, "{text}");
     assert_eq!(verdict_with(text, S), expected, "{text}");
 }
 

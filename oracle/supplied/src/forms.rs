@@ -1,7 +1,7 @@
 //! Tests on every form of the grammar and on its near neighbours: that each is shown as the replay format orders, that
 //! no neighbour stops the run, and that each row of the table of messages is met.
 
-use crate::sheet::Sheet;
+use crate::sheet::{Names, Sheet};
 use crate::{answer, left_out, lexer, messages, parser, Cursor};
 use std::collections::BTreeSet;
 
@@ -152,15 +152,15 @@ fn neighbours(text: &str) -> Vec<String> {
 }
 
 /// The message that the supplied Rust refuses a text with, unless it comes to a left-out form.
-fn message(text: &str, sheet: &Sheet) -> Option<String> {
+fn message(text: &str, names: &Names) -> Option<String> {
     let lexed = match lexer::lex(text) {
         Ok(lexed) => lexed,
         Err(error) => return Some(error.message),
     };
-    if left_out::first_reached(&lexed, sheet).is_some() {
+    if left_out::first_reached(&lexed, names).is_some() {
         return None;
     }
-    parser::action::sections(&mut Cursor::new(lexed, sheet)).err().map(|error| error.message)
+    parser::action::sections(&mut Cursor::new(lexed, names)).err().map(|error| error.message)
 }
 
 #[test]
@@ -185,12 +185,12 @@ fn no_neighbour_stops_the_run() {
 
 #[test]
 fn each_row_of_the_table_is_met() {
-    let sheet = Sheet::read(sheet().as_bytes()).ok().expect("the sheet is well formed");
+    let names = Sheet::read(sheet().as_bytes()).ok().and_then(|sheet| sheet.names_for(0, 3)).expect("the sheet is well formed");
     let five_triggers = "when http trigger ".repeat(5);
     let five_conditions = format!("when http trigger if sun is up {}", "and sun is up ".repeat(4));
     let one_instance = "when http trigger if input ( group = 1 ) is occupied".to_owned();
     let more = [five_triggers, five_conditions, one_instance];
     let all = texts().flat_map(|text| neighbours(&text)).chain(more);
-    let said: BTreeSet<String> = all.filter_map(|text| message(&text, &sheet)).collect();
+    let said: BTreeSet<String> = all.filter_map(|text| message(&text, &names)).collect();
     assert_eq!(messages::unmet(&said), [""; 0]);
 }

@@ -18,7 +18,7 @@ pub use crate::lexer::lex as supplied_lex;
 
 use crate::cursor::Cursor;
 use crate::lexer::{Lexed, Pos};
-use crate::sheet::Sheet;
+use crate::sheet::{Names, Sheet};
 use crate::tokens::Record;
 use dali2rust_rules_model::{CompileError, Condition, Trigger};
 use std::fmt::Write;
@@ -52,8 +52,8 @@ pub(crate) enum Verdict {
 
 /// The text that the replay format orders for the case: its token records, then the refusal or the two lists.
 ///
-/// The settings of a call are not looked at: what the supplied Rust does with repeated arguments is the archive habit.
-/// A case on which the supplied Rust would overflow has the one line `outside the domain` instead.
+/// Of the settings of a call the party and the primary count; what the supplied Rust does with repeated arguments is the
+/// archive habit. A case on which the supplied Rust would overflow has the one line `outside the domain` instead.
 pub fn answer(case: &cases::Case) -> String {
     let (records, verdict) = judged(case);
     let mut out = format!("case {}\n", case.id);
@@ -101,7 +101,7 @@ fn lists(out: &mut String, triggers: &[Trigger], conditions: &[Condition]) {
     }
 }
 
-/// The records that the call writes, and the verdict. Questions 1 to 4 write no record.
+/// The records that the call writes, and the verdict. Questions 1 to 4 and 53 write no record.
 fn judged(case: &cases::Case) -> (Vec<Record>, Verdict) {
     let refused = |refusal| (Vec::new(), Verdict::Refused(refusal));
     let nowhere = |number| Refusal { number, line: 0, column: 0, detail: 0 };
@@ -119,22 +119,23 @@ fn judged(case: &cases::Case) -> (Vec<Record>, Verdict) {
         Ok(text) => text,
         Err(pos) => return refused(Refusal::at(4, pos)),
     };
+    let Some(names) = sheet.names_for(case.party(), case.primary()) else { return refused(nowhere(53)) };
     let read = tokens::read(text);
     let verdict = match read.end {
         tokens::End::Refused(refusal) => Verdict::Refused(refusal),
         tokens::End::Overflow => Verdict::OutsideTheDomain,
-        tokens::End::Lexed(lexed) => parsed(lexed, &sheet),
+        tokens::End::Lexed(lexed) => parsed(lexed, &names),
     };
     (read.records, verdict)
 }
 
 /// What is said once every token is read: 40 for a left-out form that the supplied Rust comes to, else what its two
 /// sections say, else 41 for a token behind them.
-fn parsed(lexed: Lexed, sheet: &Sheet) -> Verdict {
-    if let Some(pos) = left_out::first_reached(&lexed, sheet) {
+fn parsed(lexed: Lexed, names: &Names) -> Verdict {
+    if let Some(pos) = left_out::first_reached(&lexed, names) {
         return Verdict::Refused(Refusal::at(40, pos));
     }
-    let mut cursor = Cursor::new(lexed, sheet);
+    let mut cursor = Cursor::new(lexed, names);
     match parser::action::sections(&mut cursor) {
         Err(error) => Verdict::Refused(messages::refusal(&error)),
         Ok(_) if cursor.peek().is_some() => Verdict::Refused(Refusal::at(41, cursor.here())),
@@ -147,6 +148,8 @@ fn parsed(lexed: Lexed, sheet: &Sheet) -> Verdict {
 pub enum Untaken {
     /// The sheet's first bad line.
     Sheet(u32),
+    /// The primary is not the party's.
+    Primary,
     Text(Utf8Error),
     /// What the supplied Rust says.
     Rule(CompileError),
@@ -154,18 +157,19 @@ pub enum Untaken {
     Rest,
 }
 
-/// The sheet alone into its tables, to be timed apart: this part is the driver's, not the supplied Rust's.
-pub fn plain_sheet(sheet: &[u8]) -> Result<Sheet, Untaken> {
-    Sheet::read(sheet).map_err(Untaken::Sheet)
+/// The sheet alone into the tables of a party's call, to be timed apart: this part is the driver's, not the supplied Rust's.
+pub fn plain_sheet(sheet: &[u8], party: u8, primary: u8) -> Result<Names, Untaken> {
+    let sheet = Sheet::read(sheet).map_err(Untaken::Sheet)?;
+    sheet.names_for(party, primary).ok_or(Untaken::Primary)
 }
 
 /// A whole call with nothing around it, to be timed: the sheet into its tables, the text as characters, the supplied `lex`,
 /// and its two sections up to the end of the tokens. Questions 1, 2 and 19 are not asked, and no records are made.
-pub fn plain_call(text: &[u8], sheet: &[u8]) -> Result<(Vec<Trigger>, Vec<Condition>), Untaken> {
-    let sheet = plain_sheet(sheet)?;
+pub fn plain_call(text: &[u8], sheet: &[u8], party: u8, primary: u8) -> Result<(Vec<Trigger>, Vec<Condition>), Untaken> {
+    let names = plain_sheet(sheet, party, primary)?;
     let text = std::str::from_utf8(text).map_err(Untaken::Text)?;
     let lexed = supplied_lex(text).map_err(Untaken::Rule)?;
-    let mut cursor = Cursor::new(lexed, &sheet);
+    let mut cursor = Cursor::new(lexed, &names);
     let lists = parser::action::sections(&mut cursor).map_err(Untaken::Rule)?;
     if cursor.peek().is_some() {
         return Err(Untaken::Rest);

@@ -1,10 +1,12 @@
-//! The name sheet of document 01, and the names that it gives to the supplied Rust.
+//! The name sheet of document 01 with the parties of document 02 §6, and the names that it gives to the supplied Rust.
 
 use dali2rust_rules_model::{DeviceRef, GroupRef, InputDeviceRef, LampRef, NameResolver};
 
 const MOST_BYTES: usize = 16_384;
 const MOST_ROWS: usize = 512;
 const MOST_NAME_BYTES: usize = 48;
+/// The number of adapters that a row can name.
+const ADAPTERS: usize = 256;
 
 #[derive(Debug, Clone, Copy, PartialEq, Eq)]
 enum Kind {
@@ -24,6 +26,15 @@ struct Named {
 
 /// A well-formed sheet, its rows in their order.
 pub struct Sheet {
+    rows: usize,
+    listed: Vec<u8>,
+    named: Vec<Named>,
+    /// The party of each adapter that a `party` row names.
+    parties: [Option<u8>; ADAPTERS],
+}
+
+/// The supplied Rust's resolver: the rows on the party's adapters, and the call's primary.
+pub struct Names {
     primary: u8,
     listed: Vec<u8>,
     named: Vec<Named>,
@@ -52,11 +63,9 @@ fn fields(line: &[u8]) -> Vec<&[u8]> {
     line.split(|&b| b == b',').collect()
 }
 
-fn primary(line: &[u8]) -> Option<u8> {
-    match fields(line)[..] {
-        [b"primary", adapter] => number(adapter, 255),
-        _ => None,
-    }
+/// Whether a line may be the first. Its adapter is not kept, since the call names the primary.
+fn is_first(line: &[u8]) -> bool {
+    matches!(fields(line)[..], [b"primary", adapter] if number(adapter, 255).is_some())
 }
 
 /// The lines of a sheet: each ends with LF, which the last may lack. An empty sheet is one empty line.
@@ -70,24 +79,39 @@ impl Sheet {
         if bytes.len() > MOST_BYTES {
             return Err(0);
         }
-        let mut sheet = Sheet { primary: 0, listed: Vec::new(), named: Vec::new() };
+        let mut sheet = Sheet { rows: 0, listed: Vec::new(), named: Vec::new(), parties: [None; ADAPTERS] };
         for (line, number) in lines(bytes).zip(1u32..) {
-            let taken = match number {
-                1 => primary(line).map(|adapter| sheet.primary = adapter),
-                _ => sheet.row(line),
-            };
-            taken.ok_or(number)?;
+            let taken = if number == 1 { is_first(line) } else { sheet.row(line).is_some() };
+            if !taken {
+                return Err(number);
+            }
         }
         Ok(sheet)
     }
 
+    /// The names for a party's call with this primary; none if the primary is not the party's.
+    pub fn names_for(mut self, party: u8, primary: u8) -> Option<Names> {
+        let parties = self.parties;
+        let own = |adapter: u8| parties[usize::from(adapter)].unwrap_or(0) == party;
+        self.listed.retain(|&adapter| own(adapter));
+        self.named.retain(|row| own(row.adapter));
+        own(primary).then_some(Names { primary, listed: self.listed, named: self.named })
+    }
+
     /// Takes in a row; nothing if it is bad or one too many.
     fn row(&mut self, line: &[u8]) -> Option<()> {
-        if self.listed.len() + self.named.len() == MOST_ROWS {
+        if self.rows == MOST_ROWS {
             return None;
         }
+        self.rows += 1;
         match fields(line)[..] {
             [b"adapter", adapter] => self.listed.push(number(adapter, 255)?),
+            [b"party", adapter, party] => {
+                let of = &mut self.parties[usize::from(number(adapter, 255)?)];
+                if of.replace(number(party, 255)?).is_some() {
+                    return None;
+                }
+            }
             [word, adapter, id, name] => {
                 let (kind, most) = kind(word)?;
                 let (adapter, number) = (number(adapter, 255)?, number(id, most)?);
@@ -100,7 +124,9 @@ impl Sheet {
         }
         Some(())
     }
+}
 
+impl Names {
     /// Every row of the kind and name, made into a reference from its adapter and number.
     fn rows<T>(&self, kind: Kind, name: &str, make: fn(u8, u8) -> T) -> Vec<T> {
         let wanted = |row: &&Named| row.kind == kind && row.name == name.as_bytes();
@@ -108,7 +134,7 @@ impl Sheet {
     }
 }
 
-impl NameResolver for Sheet {
+impl NameResolver for Names {
     fn primary_adapter(&self) -> u8 {
         self.primary
     }

@@ -31,21 +31,21 @@ type Call = fn(&Input, &mut Lent);
 #[no_mangle]
 #[inline(never)]
 fn call_of_the_proved(input: &Input, lent: &mut Lent) {
-    black_box(proved::read_archive(input.text.as_bytes(), input.sheet.as_bytes(), &mut lent.words, &mut lent.answer));
+    black_box(proved::read_archive(input.text.as_bytes(), input.shared(), &mut lent.words, &mut lent.answer));
 }
 
 /// One whole call of the supplied Rust, with the sheet's tables made for it, and the freeing of what it gives.
 #[no_mangle]
 #[inline(never)]
 fn call_of_the_supplied(input: &Input, _: &mut Lent) {
-    let _ = black_box(supplied::plain_call(input.text.as_bytes(), input.sheet.as_bytes()));
+    let _ = black_box(supplied::plain_call(input.text.as_bytes(), input.sheet.as_bytes(), input.party, input.primary));
 }
 
 /// The part of that call that makes the sheet's tables, and the freeing of them.
 #[no_mangle]
 #[inline(never)]
 fn call_of_the_sheet(input: &Input, _: &mut Lent) {
-    let _ = black_box(supplied::plain_sheet(input.sheet.as_bytes()));
+    let _ = black_box(supplied::plain_sheet(input.sheet.as_bytes(), input.party, input.primary));
 }
 
 fn main() -> ExitCode {

@@ -1,6 +1,7 @@
-//! What `answer` says, against document 01.
+//! What `answer` says, against the documents.
 
 mod first_questions;
 mod pairs;
+mod parties;
 mod settled;
 mod told;

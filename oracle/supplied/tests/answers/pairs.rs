@@ -1,6 +1,13 @@
-//! The twelve pairs of document 01.
+//! The twelve pairs of document 01. "The twelve pairs have party 0, primary 0", document 02 §6.
 
-use crate::told::{records, verdict};
+use crate::told::{case, records, told, verdict, S};
+
+#[test]
+fn a_case_with_sheet_s_has_party_0_and_primary_0() {
+    let case = case(b"when lamp(\"Till\") turns on", S.as_bytes());
+    assert_eq!((case.party(), case.primary()), (0, 0));
+    assert_eq!(told(&case.with_party(0, 0)), told(&case));
+}
 
 #[track_caller]
 fn pair(taken: &str, its_records: &[&str], refused: &str, its_verdict: &str) {

@@ -43,7 +43,7 @@ skip-lines-spec =
     Inv-loop
     μ-loop
     (λ c. search needs)
-    (λ c. (λ kind scope t. refl, search needs))
+    (λ c. (λ own kind scope t. refl, search needs))
     (λ c. search needs)
     (λ c. let a = c .before .before .before .before .before .args in
     let l = c .before .before .loop in

@@ -36,6 +36,8 @@ primary-spec =
     (λ c. search needs)
     (λ c. search needs)
     (λ c. search needs)
+    (λ c. search needs)
+    (λ c. search (needs, says))
     (λ c. search (needs, says))
     (λ c. search (needs, says))
     (λ c. search (needs, says))
