@@ -5,10 +5,10 @@
  * between calls, so that calls on different arrays may run at the same time.
  *
  * A slice is passed as a pointer and a length. What the proofs cannot see is the caller's part: each pointer is not null
- * and points to as many elements as the length says (a length of 0 still wants a pointer that is not null), the elements
- * were written before, and an array that is written is apart from all the others. A party and an adapter are 0 to 255: a
- * larger number becomes another one in a uint8_t, without a word from C, so whoever has them from outside tests them
- * first.
+ * and points to as many elements as the length says (a length of 0 still wants a pointer that is not null: where there
+ * are no topics the text's will do), the elements were written before, and an array that is written is apart from all
+ * the others; those that are only read may be the same. A party and an adapter are 0 to 255: a larger number becomes
+ * another one in a uint8_t, without a word from C, so whoever has them from outside tests them first.
  */
 #ifndef TERGYOSUL_H
 #define TERGYOSUL_H
@@ -108,7 +108,8 @@ enum tergyosul_trigger {
     TERGYOSUL_CONTROLLER_STARTS = 17,
     TERGYOSUL_CONTROLLER_BECOMES_ACTIVE = 18,
     TERGYOSUL_RULE_FAILS = 19,                        /* NAME */
-    TERGYOSUL_HTTP_TRIGGER = 20
+    TERGYOSUL_HTTP_TRIGGER = 20,
+    TERGYOSUL_MQTT_MESSAGE = 21                       /* NAME, the topic */
 };
 
 /* The kinds of conditions, in rows 5 to 8. */
@@ -181,12 +182,18 @@ enum tergyosul_reading {
  * primary adapter, which stands in for the sheet's. It need not be listed; if it is not the party's the call is refused
  * with 53, at 0:0.
  *
+ * topics are those of earlier rules, one a line, LF between; where there are none the length is 0. They may be of any
+ * length and content: lines are taken as they come, with a CR if they have one, and empty ones count for nothing. A topic
+ * of the text that is neither lent nor named earlier in the text is new, and is refused with 66, at its word `mqtt`, where
+ * eight or more different ones are lent or named earlier. No number of lent topics is refused by itself.
+ *
  * The result is 0, or the number of the refusal, or TERGYOSUL_NO_ROOM. The whole answer goes to answer, and the records
  * of the tokens go to words, as above; with refusals 1 to 4 and 53 these are left as they are. An argument of `input(`
  * that sets one already set is refused with 63, at its first token.
  */
 uint32_t tergyosul_read(const uint8_t *text, size_t text_length,
                         const uint8_t *sheet, size_t sheet_length,
+                        const uint8_t *topics, size_t topics_length,
                         uint8_t party, uint8_t primary,
                         uint32_t *words, size_t words_length,
                         uint32_t *answer, size_t answer_length);
@@ -197,6 +204,7 @@ uint32_t tergyosul_read(const uint8_t *text, size_t text_length,
  */
 uint32_t tergyosul_read_archive(const uint8_t *text, size_t text_length,
                                 const uint8_t *sheet, size_t sheet_length,
+                                const uint8_t *topics, size_t topics_length,
                                 uint8_t party, uint8_t primary,
                                 uint32_t *words, size_t words_length,
                                 uint32_t *answer, size_t answer_length);

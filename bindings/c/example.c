@@ -1,20 +1,23 @@
 /*
  * Reads a rule with its name sheet and says what it has.
  *
- *   example RULE SHEET [PARTY PRIMARY]
+ *   example RULE SHEET [TOPICS] [PARTY PRIMARY]
  *
- * for a party with its own primary adapter, or else for party 0 with the sheet's.
+ * with the topics of earlier rules, one a line, or else with none, and for a party with its own primary adapter, or else
+ * for party 0 with the sheet's.
  * The exit status is 0 if the rule is accepted, 1 if it is refused, 2 for wrong usage or a file that cannot be read.
  */
 #include <stdio.h>
 
 #include "tergyosul.h"
 
-/* More than a text or a sheet may have, so that a file that is too long is passed whole and refused by the library. */
+/* More than a text or a sheet may have, so that one that is too long is passed whole and refused by the library. Topics may
+ * be of any length, for the library; here they get as much. */
 #define ROOM 65536
 
 static uint8_t text[ROOM];
 static uint8_t sheet[ROOM];
+static uint8_t topics[ROOM];
 static uint32_t words[TERGYOSUL_TOKEN_WORDS];
 static uint32_t answer[TERGYOSUL_ANSWER_WORDS];
 
@@ -23,7 +26,7 @@ static const char *const triggers[] = {
     "none", "input event", "input occupancy", "input light crosses", "input position changes",
     "input device power cycled", "input device manual config changed", "at time", "at solar event", "every",
     "lamp turns", "lamp level crosses", "group becomes", "scene recalled", "device online", "hcl override",
-    "timer fires", "controller starts", "controller becomes active", "rule fails", "http trigger"
+    "timer fires", "controller starts", "controller becomes active", "rule fails", "http trigger", "mqtt message"
 };
 
 static const char *const conditions[] = {
@@ -51,7 +54,7 @@ static int load(const char *path, uint8_t *bytes, size_t *length)
     }
     fclose(file);
     if (!fits) {
-        fprintf(stderr, "%s: more than %d bytes, which is no rule and no sheet\n", path, ROOM);
+        fprintf(stderr, "%s: more than %d bytes, for which there is no room here\n", path, ROOM);
     }
     return fits;
 }
@@ -154,6 +157,7 @@ static void put_trigger(const uint32_t *row)
         break;
     case TERGYOSUL_TIMER_FIRES:
     case TERGYOSUL_RULE_FAILS:
+    case TERGYOSUL_MQTT_MESSAGE:
         put_name(row + 1);
         break;
     case TERGYOSUL_CONTROLLER_STARTS:
@@ -229,23 +233,25 @@ static void put_tokens(void)
 
 int main(int count, char **arguments)
 {
-    size_t text_length, sheet_length;
+    size_t text_length, sheet_length, topics_length = 0;
     uint32_t number, i;
     uint8_t party = 0, primary = 0;
+    const int has_party = count >= 5, has_topics = count == 4 || count == 6;
 
-    if ((count != 3 && count != 5) ||
-        (count == 5 && (!byte_of(arguments[3], &party) || !byte_of(arguments[4], &primary)))) {
-        fprintf(stderr, "usage: example RULE SHEET [PARTY PRIMARY]\n");
+    if (count < 3 || count > 6 ||
+        (has_party && (!byte_of(arguments[count - 2], &party) || !byte_of(arguments[count - 1], &primary)))) {
+        fprintf(stderr, "usage: example RULE SHEET [TOPICS] [PARTY PRIMARY]\n");
         return 2;
     }
-    if (!load(arguments[1], text, &text_length) || !load(arguments[2], sheet, &sheet_length)) {
+    if (!load(arguments[1], text, &text_length) || !load(arguments[2], sheet, &sheet_length) ||
+        (has_topics && !load(arguments[3], topics, &topics_length))) {
         return 2;
     }
-    if (count == 3) {
+    if (!has_party) {
         primary = (uint8_t)tergyosul_sheet_primary(sheet, sheet_length);
     }
-    number = tergyosul_read(text, text_length, sheet, sheet_length, party, primary, words, TERGYOSUL_TOKEN_WORDS,
-                            answer, TERGYOSUL_ANSWER_WORDS);
+    number = tergyosul_read(text, text_length, sheet, sheet_length, topics, topics_length, party, primary, words,
+                            TERGYOSUL_TOKEN_WORDS, answer, TERGYOSUL_ANSWER_WORDS);
     if (number == TERGYOSUL_NO_ROOM) { /* not with an array of this length; answer was not written */
         fprintf(stderr, "there is no room for the answer\n");
         return 2;

@@ -4,7 +4,8 @@
 #include <cstdint>
 #include <vector>
 
-std::uint32_t triggers_of(const std::vector<std::uint8_t> &text, const std::vector<std::uint8_t> &sheet)
+std::uint32_t triggers_of(const std::vector<std::uint8_t> &text, const std::vector<std::uint8_t> &sheet,
+                          const std::vector<std::uint8_t> &topics)
 {
     static const std::uint8_t nothing = 0;
     std::vector<std::uint32_t> words(TERGYOSUL_TOKEN_WORDS);
@@ -12,8 +13,10 @@ std::uint32_t triggers_of(const std::vector<std::uint8_t> &text, const std::vect
     // A vector without elements may have a null pointer.
     const std::uint8_t *text_bytes = text.empty() ? &nothing : text.data();
     const std::uint8_t *sheet_bytes = sheet.empty() ? &nothing : sheet.data();
+    const std::uint8_t *topics_bytes = topics.empty() ? &nothing : topics.data();
     const std::uint8_t primary = static_cast<std::uint8_t>(tergyosul_sheet_primary(sheet_bytes, sheet.size()));
-    const std::uint32_t number = tergyosul_read(text_bytes, text.size(), sheet_bytes, sheet.size(), 0, primary,
-                                                words.data(), words.size(), answer, TERGYOSUL_ANSWER_WORDS);
+    const std::uint32_t number = tergyosul_read(text_bytes, text.size(), sheet_bytes, sheet.size(), topics_bytes,
+                                                topics.size(), 0, primary, words.data(), words.size(), answer,
+                                                TERGYOSUL_ANSWER_WORDS);
     return number == 0 ? answer[4] : 0;
 }

@@ -40,10 +40,10 @@ int main(void)
 
     fill(words, TERGYOSUL_TOKEN_WORDS);
     fill(answer, TERGYOSUL_ANSWER_WORDS);
-    read = tergyosul_read(text, text_length, sheet, sheet_length, 0, 0, words, TERGYOSUL_TOKEN_WORDS, answer,
+    read = tergyosul_read(text, text_length, sheet, sheet_length, text, 0, 0, 0, words, TERGYOSUL_TOKEN_WORDS, answer,
                           TERGYOSUL_ANSWER_WORDS - 1);
-    archive = tergyosul_read_archive(text, text_length, sheet, sheet_length, 0, 0, words, TERGYOSUL_TOKEN_WORDS, answer,
-                                     TERGYOSUL_ANSWER_WORDS - 1);
+    archive = tergyosul_read_archive(text, text_length, sheet, sheet_length, text, 0, 0, 0, words,
+                                     TERGYOSUL_TOKEN_WORDS, answer, TERGYOSUL_ANSWER_WORDS - 1);
     lexed = tergyosul_lex(text, text_length, words, TERGYOSUL_TOKEN_WORDS, answer, TERGYOSUL_LEX_WORDS - 1);
     if (read != TERGYOSUL_NO_ROOM || archive != TERGYOSUL_NO_ROOM || lexed != TERGYOSUL_NO_ROOM) {
         fprintf(stderr, "an answer without room is not told\n");
@@ -53,10 +53,10 @@ int main(void)
         fprintf(stderr, "something was written without room for the answer\n");
         return 1;
     }
-    read = tergyosul_read(text, text_length, sheet, sheet_length, 0, 0, words, TERGYOSUL_TOKEN_WORDS, answer,
+    read = tergyosul_read(text, text_length, sheet, sheet_length, text, 0, 0, 0, words, TERGYOSUL_TOKEN_WORDS, answer,
                           TERGYOSUL_ANSWER_WORDS);
-    archive = tergyosul_read_archive(text, text_length, sheet, sheet_length, 0, 0, words, TERGYOSUL_TOKEN_WORDS, answer,
-                                     TERGYOSUL_ANSWER_WORDS);
+    archive = tergyosul_read_archive(text, text_length, sheet, sheet_length, text, 0, 0, 0, words,
+                                     TERGYOSUL_TOKEN_WORDS, answer, TERGYOSUL_ANSWER_WORDS);
     lexed = tergyosul_lex(text, text_length, words, TERGYOSUL_TOKEN_WORDS, answer, TERGYOSUL_LEX_WORDS);
     if (read != 0 || archive != 0 || lexed != 0 || answer[3] != 3 || answer[TERGYOSUL_ROW] != TERGYOSUL_HTTP_TRIGGER) {
         fprintf(stderr, "an answer that just has room is not given\n");

@@ -8,12 +8,12 @@
 //!   `uint8_t` and `uint32_t`, and a slice's pointer is aligned. A party and an adapter are a `u8`, so neither is cut.
 //! - The elements were written before: those of a slice are initialised. The library writes whole words, so they stay so.
 //! - An array that is written is apart from all the others: `words` and `answer` are borrowed mutably, so neither overlaps
-//!   the other, the text or the sheet. The text and the sheet, which are only read, may be the same bytes.
+//!   the other, the text, the sheet or the topics. These, which are only read, may be the same bytes.
 //!
 //! The library has no state, so it keeps no pointer after it returns. That it stays within the slices and returns from every
 //! call is proved. The declarations below are the header's.
 
-use crate::Party;
+use crate::Call;
 
 extern "C" {
     fn tergyosul_read(
@@ -21,6 +21,8 @@ extern "C" {
         text_length: usize,
         sheet: *const u8,
         sheet_length: usize,
+        topics: *const u8,
+        topics_length: usize,
         party: u8,
         primary: u8,
         words: *mut u32,
@@ -34,6 +36,8 @@ extern "C" {
         text_length: usize,
         sheet: *const u8,
         sheet_length: usize,
+        topics: *const u8,
+        topics_length: usize,
         party: u8,
         primary: u8,
         words: *mut u32,
@@ -57,16 +61,18 @@ extern "C" {
 /// The result of a call whose answer is too short: nothing was read and nothing written.
 pub const NO_ROOM: u32 = u32::MAX;
 
-pub fn read(text: &[u8], sheet: &[u8], party: Party, words: &mut [u32], answer: &mut [u32]) -> u32 {
-    // SAFETY: as above: four slices that are borrowed for the call, the two mutable ones apart from all others.
+pub fn read(text: &[u8], sheet: &[u8], call: Call<'_>, words: &mut [u32], answer: &mut [u32]) -> u32 {
+    // SAFETY: as above: five slices that are borrowed for the call, the two mutable ones apart from all others.
     unsafe {
         tergyosul_read(
             text.as_ptr(),
             text.len(),
             sheet.as_ptr(),
             sheet.len(),
-            party.number,
-            party.primary,
+            call.topics.as_ptr(),
+            call.topics.len(),
+            call.party.number,
+            call.party.primary,
             words.as_mut_ptr(),
             words.len(),
             answer.as_mut_ptr(),
@@ -75,16 +81,18 @@ pub fn read(text: &[u8], sheet: &[u8], party: Party, words: &mut [u32], answer: 
     }
 }
 
-pub fn read_archive(text: &[u8], sheet: &[u8], party: Party, words: &mut [u32], answer: &mut [u32]) -> u32 {
-    // SAFETY: as above: four slices that are borrowed for the call, the two mutable ones apart from all others.
+pub fn read_archive(text: &[u8], sheet: &[u8], call: Call<'_>, words: &mut [u32], answer: &mut [u32]) -> u32 {
+    // SAFETY: as above: five slices that are borrowed for the call, the two mutable ones apart from all others.
     unsafe {
         tergyosul_read_archive(
             text.as_ptr(),
             text.len(),
             sheet.as_ptr(),
             sheet.len(),
-            party.number,
-            party.primary,
+            call.topics.as_ptr(),
+            call.topics.len(),
+            call.party.number,
+            call.party.primary,
             words.as_mut_ptr(),
             words.len(),
             answer.as_mut_ptr(),

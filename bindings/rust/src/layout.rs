@@ -263,6 +263,7 @@ impl<'a> Words<'a> {
             18 => Trigger::ControllerBecomesActive,
             19 => Trigger::RuleFails(self.name()),
             20 => Trigger::HttpTrigger,
+            21 => Trigger::MqttMessage(self.name()),
             _ => broken(),
         }
     }

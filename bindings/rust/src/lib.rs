@@ -1,7 +1,7 @@
 //! Tergyosul, the rule reader of the lighting controllers, for Rust.
 //!
-//! [`read`] takes a rule text and a name sheet, both as bytes, and whose call it is ([`Party`]). It gives the rule's
-//! triggers and conditions, or one numbered refusal with its place. The reading is done by the proved library, through its
+//! [`read`] takes a rule text and a name sheet, both as bytes, and whose call it is ([`Party`]), perhaps with the topics of
+//! earlier rules ([`Call`]). It gives the rule's triggers and conditions, or one numbered refusal with its place. The reading is done by the proved library, through its
 //! C ABI (`include/tergyosul.h`); this crate passes the slices and turns the answer's words into types, with a case for
 //! each kind and code of that header. It needs no standard library, allocates nothing and keeps nothing between calls, so
 //! that calls may run at the same time.
@@ -36,6 +36,7 @@ extern crate std;
 
 #[allow(unsafe_code)]
 mod boundary;
+mod call;
 mod layout;
 mod party;
 mod refusal;
@@ -44,6 +45,7 @@ mod rule;
 mod tests;
 mod token;
 
+pub use call::Call;
 pub use party::{sheet_primary, Party};
 pub use refusal::Refusal;
 pub use rule::{
@@ -59,19 +61,21 @@ pub const TOKEN_WORDS: usize = 1_024 * RECORD_WORDS;
 /// The length of an answer of the library's `tergyosul_lex`.
 const LEX_WORDS: usize = 4;
 
-/// Reads a rule text with a name sheet, for a party with its own primary adapter.
+/// Reads a rule text with a name sheet, for a party with its own primary adapter, perhaps with the topics of earlier rules:
+/// `call` is a [`Party`], or one [`with_topics`](Party::with_topics).
 ///
 /// The records of the tokens go to `words`, from which [`tokens`] takes them; with refusals 1 to 4 and 53 these are left as
 /// they are. What the words hold before plays no part. A primary adapter that is not the party's is refused with 53, and an
-/// argument of `input(` that sets one already set with 63.
+/// argument of `input(` that sets one already set with 63. A new topic where eight or more are lent or named earlier is
+/// refused with 66.
 ///
 /// # Panics
 ///
 /// If the linked library gives an answer outside the layout of `include/tergyosul.h`. The proved library gives none, so
 /// that means that another one was linked.
-pub fn read(text: &[u8], sheet: &[u8], party: Party, words: &mut [u32]) -> Result<Rule, Refusal> {
+pub fn read<'a>(text: &[u8], sheet: &[u8], call: impl Into<Call<'a>>, words: &mut [u32]) -> Result<Rule, Refusal> {
     let mut answer = [0; layout::ANSWER_WORDS];
-    let number = boundary::read(text, sheet, party, words, &mut answer);
+    let number = boundary::read(text, sheet, call.into(), words, &mut answer);
     with_room(number)?;
     layout::rule(&answer)
 }
@@ -99,9 +103,9 @@ pub fn read(text: &[u8], sheet: &[u8], party: Party, words: &mut [u32]) -> Resul
 /// # Panics
 ///
 /// As [`read`].
-pub fn read_archive(text: &[u8], sheet: &[u8], party: Party, words: &mut [u32]) -> Result<Rule, Refusal> {
+pub fn read_archive<'a>(text: &[u8], sheet: &[u8], call: impl Into<Call<'a>>, words: &mut [u32]) -> Result<Rule, Refusal> {
     let mut answer = [0; layout::ANSWER_WORDS];
-    let number = boundary::read_archive(text, sheet, party, words, &mut answer);
+    let number = boundary::read_archive(text, sheet, call.into(), words, &mut answer);
     with_room(number)?;
     layout::rule(&answer)
 }

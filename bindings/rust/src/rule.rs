@@ -21,6 +21,17 @@ impl Rule {
         &self.triggers[..self.trigger_count]
     }
 
+    /// The topics that the triggers name, in the text's order, each as often as it is named. They are parts of the text that
+    /// was read. Lent with the calls that follow, they are topics of earlier rules ([`Party::with_topics`]).
+    ///
+    /// [`Party::with_topics`]: crate::Party::with_topics
+    pub fn topics<'a>(&self, text: &'a [u8]) -> impl Iterator<Item = &'a [u8]> + use<'_, 'a> {
+        self.triggers().iter().filter_map(|trigger| match trigger {
+            Trigger::MqttMessage(topic) => topic.of(text),
+            _ => None,
+        })
+    }
+
     /// The conditions, in the text's order; all of them must hold.
     pub fn conditions(&self) -> &[Condition] {
         &self.conditions[..self.condition_count]
@@ -281,6 +292,8 @@ pub enum Trigger {
     ControllerBecomesActive,
     RuleFails(Name),
     HttpTrigger,
+    /// With its topic, of 1 to 48 bytes.
+    MqttMessage(Name),
 }
 
 /// What must hold for a rule to be carried out.

@@ -2,7 +2,7 @@
 
 use crate::rule::*;
 use crate::{boundary, layout, lex, read, read_archive, tokens, with_room};
-use crate::{Party, Refusal, Token, LEX_WORDS, RECORD_WORDS, TOKEN_WORDS};
+use crate::{Call, Party, Refusal, Token, LEX_WORDS, RECORD_WORDS, TOKEN_WORDS};
 use std::format;
 use std::string::{String, ToString};
 use std::vec::Vec;
@@ -10,8 +10,8 @@ use std::vec::Vec;
 /// The manual's sheet.
 const SHEET: &[u8] = b"primary,0\nadapter,0\nadapter,1\nlamp,0,2,Bakery\nlamp,0,3,Bakery\nlamp,0,4,Aisle\nlamp,1,4,Aisle\n\
 lamp,1,7,Till\ngroup,0,1,Sales floor\ndevice,0,9,Gateway\ninput,0,5,Door\n";
-/// Whose call each of them is; `tests/parties.rs` has others.
-const ZERO: Party = Party { number: 0, primary: 0 };
+/// Whose call each of them is, without topics of earlier rules; `tests/parties.rs` and `tests/topics.rs` have others.
+const ZERO: Call = Party { number: 0, primary: 0 }.with_topics(b"");
 const HEADER: &str = include_str!("../../../include/tergyosul.h");
 
 const TILL: Ref = Ref { adapter: 1, number: 7 };
@@ -91,7 +91,7 @@ fn condition(text: &str, words: &[u32]) -> Condition {
 fn every_trigger() {
     use Trigger::*;
     let minus = |ms: i64| (ms + (1 << 32)) as u32;
-    let forms: [(&str, &str, &[u32], Trigger); 31] = [
+    let forms: [(&str, &str, &[u32], Trigger); 32] = [
         (
             "INPUT_EVENT",
             "input(\"Door\", 3) is press",
@@ -188,6 +188,7 @@ fn every_trigger() {
         ("CONTROLLER_BECOMES_ACTIVE", "controller becomes active", &[18], ControllerBecomesActive),
         ("RULE_FAILS", "rule(\"Night\") fails", &[19, 11, 5], RuleFails(name(11, 5))),
         ("HTTP_TRIGGER", "http trigger", &[20], HttpTrigger),
+        ("MQTT_MESSAGE", "mqtt \"till/close\"", &[21, 11, 10], MqttMessage(name(11, 10))),
     ];
     for (_, text, words, expected) in &forms {
         assert_eq!(trigger(text, words), *expected, "{text}");
@@ -447,8 +448,9 @@ fn empty_slices_and_short_words() {
     assert_eq!(refused(b"when http trigger", SHEET, &mut [0; TOKEN_WORDS - 1]), refusal(2, 0, 0));
     assert_eq!(refused(&[b' '; 16_385], b"", &mut []), refusal(1, 0, 0));
     assert_eq!(refused(&[b' '; 16_384], &[b','; 16_385], &mut [0; TOKEN_WORDS]), refusal(3, 0, 0));
-    // The text and the sheet are only read, so they may be the same bytes.
-    assert_eq!(refused(SHEET, SHEET, &mut [0; TOKEN_WORDS]), refusal(38, 1, 1));
+    // The text, the sheet and the topics are only read, so they may be the same bytes.
+    let all = Call { topics: SHEET, ..ZERO };
+    assert_eq!(read(SHEET, SHEET, all, &mut [0; TOKEN_WORDS]), Err(refusal(38, 1, 1)));
 }
 
 #[test]
@@ -585,12 +587,12 @@ fn lexing_refuses_what_is_not_utf8() {
 #[test]
 fn every_refusal_has_its_own_meaning() {
     let refusal = |number| Refusal { number, line: 2, column: 3, detail: 4 };
-    let known = |number| matches!(number, 1..=4 | 10..=13 | 15..=41 | 53 | 63);
+    let known = |number| matches!(number, 1..=4 | 10..=13 | 15..=41 | 53 | 63..=66);
     let mut meanings: Vec<&str> = (0..100).filter(|&n| known(n)).map(|n| refusal(n).meaning()).collect();
-    assert_eq!(meanings.len(), 37);
+    assert_eq!(meanings.len(), 40);
     meanings.sort();
     meanings.dedup();
-    assert_eq!(meanings.len(), 37);
+    assert_eq!(meanings.len(), 40);
     let unknown = refusal(0).meaning();
     assert!((0..100).all(|n| known(n) != (refusal(n).meaning() == unknown)));
     assert_eq!(refusal(3).to_string(), "sheet line 2: the sheet is not well formed (refusal 3)");
@@ -621,7 +623,7 @@ fn a_broken_answer_is_seen() {
         &[(4, 5)],
         &[(5, u32::MAX)],
         &[(4, 1)],
-        &[(4, 1), (12, 21)],
+        &[(4, 1), (12, 22)],
         &[(4, 1), (12, u32::MAX)],
         &[(4, 1), (12, 10), (15, 0)],
         &[(4, 1), (12, 10), (15, 3)],

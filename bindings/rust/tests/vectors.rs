@@ -6,26 +6,26 @@ mod shown;
 use std::fmt::Write;
 use std::path::Path;
 use std::{fs, str};
-use tergyosul::Party;
+use tergyosul::{Call, Party};
 
 /// What every word holds before a call.
 const UNTOUCHED: u32 = u32::MAX;
 
 /// Either call of this crate.
-type Call = fn(&[u8], &[u8], Party, &mut [u32]) -> Result<tergyosul::Rule, tergyosul::Refusal>;
+type Read<'a> = fn(&[u8], &[u8], Call<'a>, &mut [u32]) -> Result<tergyosul::Rule, tergyosul::Refusal>;
 
 struct Case<'a> {
     id: &'a str,
-    call: Call,
+    read: Read<'a>,
     words: usize,
     text: &'a [u8],
     sheet: &'a [u8],
-    party: Party,
+    call: Call<'a>,
 }
 
 impl Case<'_> {
     fn read(&self, words: &mut [u32]) -> Result<tergyosul::Rule, tergyosul::Refusal> {
-        (self.call)(self.text, self.sheet, self.party, words)
+        (self.read)(self.text, self.sheet, self.call, words)
     }
 }
 
@@ -42,7 +42,7 @@ fn body<'a>(input: &mut &'a [u8], length: &str) -> &'a [u8] {
 }
 
 /// The call of a habit. The shop's is the default one, as long as its profile has not landed.
-fn call(habit: &str) -> Call {
+fn read_by<'a>(habit: &str) -> Read<'a> {
     match habit {
         "rule" | "shop" => tergyosul::read,
         "archive" => tergyosul::read_archive,
@@ -50,7 +50,7 @@ fn call(habit: &str) -> Call {
     }
 }
 
-/// A `case` is party 0's, with the sheet's own primary. Topics are read and not used yet.
+/// A `case` is party 0's, with the sheet's own primary and no topics.
 fn cases(mut input: &[u8]) -> Vec<Case<'_>> {
     let mut cases = Vec::new();
     while !input.is_empty() {
@@ -66,14 +66,14 @@ fn cases(mut input: &[u8]) -> Vec<Case<'_>> {
         input = &input[end + 1..];
         let text = body(&mut input, text);
         let sheet = body(&mut input, sheet);
-        let party = match settings {
-            None => Party::of_sheet(sheet),
-            Some((party, primary, topics)) => {
-                body(&mut input, topics);
-                Party { number: party.parse().expect("a party"), primary: primary.parse().expect("an adapter") }
-            }
+        let call = match settings {
+            None => Party::of_sheet(sheet).into(),
+            Some((party, primary, topics)) => Call {
+                party: Party { number: party.parse().expect("a party"), primary: primary.parse().expect("an adapter") },
+                topics: body(&mut input, topics),
+            },
         };
-        cases.push(Case { id, call: call(habit), words: words.parse().expect("a length"), text, sheet, party });
+        cases.push(Case { id, read: read_by(habit), words: words.parse().expect("a length"), text, sheet, call });
     }
     cases
 }
@@ -116,7 +116,7 @@ fn every_stored_answer_is_given() {
     let input = stored("stdin");
     let output = String::from_utf8(stored("stdout")).expect("the answers are UTF-8");
     let (cases, answers) = (cases(&input), answers(&output));
-    assert!(cases.len() >= 863);
+    assert!(cases.len() >= 1286);
     assert_eq!(cases.len(), answers.len());
     for (case, expected) in cases.iter().zip(&answers) {
         assert_eq!(answer(case), *expected, "case {}", case.id);

@@ -1,6 +1,6 @@
 -- An answer as words, "nine rows of twelve words" (include/tergyosul.h). Row 0 says how the reading went; four rows of triggers and four of conditions
 -- follow. The first word of an entry is its kind. Kinds count from 1 in the order of the Rust's lists PARSED_TRIGGER_KINDS and PARSED_CONDITION_KINDS,
--- from which DayIn and MqttMessage are left out: these are not read.
+-- from which DayIn is left out: it is not read.
 use Prim.Native.Nat.{ℕ, _+_, _*_, _/_}
 use mathlib.Core.List.{List, [], _∷_, _++_}
 use lib.ListN.{length, getD}
@@ -115,6 +115,7 @@ triggerWords Trigger.ControllerStarts = 17 ∷ []
 triggerWords Trigger.ControllerBecomesActive = 18 ∷ []
 triggerWords (Trigger.RuleFails n) = 19 ∷ nameWords n
 triggerWords Trigger.HttpTrigger = 20 ∷ []
+triggerWords (Trigger.MqttMessage topic) = 21 ∷ nameWords topic
 
 -- the two kinds of a lamp's property that is compared
 abbrev pub propertyKind : LampProperty → ℕ

@@ -42,5 +42,6 @@ pub fn trigger_row(x: Trigger) -> Row
         Trigger::ControllerBecomesActive => return rows::plain(18, 0, 0),
         Trigger::RuleFails(n) => return rows::of_name(19, n, 0),
         Trigger::HttpTrigger => return rows::plain(20, 0, 0),
+        Trigger::MqttMessage(topic) => return rows::of_name(21, topic, 0),
     }
 }

@@ -10,12 +10,14 @@ use Rattle.references.specs.Args.{inputSelector, inputRef}
 use Rattle.references.proofs.ArgComplete.{no-token}
 use Rattle.references.proofs.FuelLaws.{selector-fuel, input-fuel}
 use Rattle.model.specs.declared.Name.{Name}
+use Rattle.model.specs.declared.Condition.{Condition}
+use Rattle.tokens.specs.Result.{Res}
 use Rattle.language.specs.Expr.{inputReading, readingBy, readingAt, readValue, valueAt}
 use Rattle.language.specs.Trigger.{inputTrigger, triggerBy, triggerAt}
 use Rattle.language.specs.Condition.{lampCompared, lampPoint, lampState, lampCondition, lightThan, inputState, inputCondition, operandAt, varCompared, varCondition, conditionBy, conditionAt}
-use Rattle.language.specs.Section.{whenSection, ifSection, ruleAt}
+use Rattle.language.specs.Section.{Topics, triggerNamed, whenSection, ifSection, ruleAt}
 use Rattle.language.specs.Range.{rangeOf}
-use Rattle.language.specs.Read.{ruleOf}
+use Rattle.language.specs.Read.{topicsWith, ruleOf}
 use Rattle.language.proofs.WordLaws.{End}
 
 -- no token stands at n or behind it, and both counts are at least n
@@ -38,13 +40,21 @@ module _ (t : ℕ → Tok) (view : View) (range : ℕ → Name) {n m k : ℕ} (e
   unfolding conditionAt conditionBy varCondition varCompared operandAt inputCondition inputState lightThan lampCondition lampState lampPoint lampCompared
   condition = fun-ext (λ i. rw (input, value))
 
+  named : (topics : Topics) → triggerNamed t view range topics m ≡ triggerNamed t view range topics k
+  unfolding triggerNamed
+  named topics = fun-ext (λ earlier. fun-ext (λ i. rw (trigger)))
+
   -- a whole rule
-  pub rule-fuel : ruleAt t view range m ≡ ruleAt t view range k
+  pub rule-fuel : (topics : Topics) → ruleAt t view range topics m ≡ ruleAt t view range topics k
   unfolding ruleAt whenSection ifSection
-  rule-fuel = rw (trigger, condition)
+  rule-fuel topics =
+      let conditions : _≡_ {A = Unit {0} → ℕ → Res Condition} (λ s. conditionAt t view range m) (λ s. conditionAt t view range k) =
+      fun-ext (λ s. condition) in
+      rw (named topics, conditions, condition)
 
 -- a call gives the number of its records as that count: no larger one would change its answer
-pub call-fuel : (text words : List ℕ) (view : View) (k : ℕ) → capacity words ≤ k →
-    ruleOf text words view ≡ ruleAt (tokens text words) view (rangeOf words) k
+pub call-fuel : (text words : List ℕ) (view : View) (lent : List ℕ) (k : ℕ) → capacity words ≤ k →
+    ruleOf text words view lent ≡ ruleAt (tokens text words) view (rangeOf words) (topicsWith text lent) k
 unfolding ruleOf
-call-fuel text words view k h = rule-fuel (tokens text words) view (rangeOf words) (no-token text words) (omega arith) h
+call-fuel text words view lent k h =
+    rule-fuel (tokens text words) view (rangeOf words) (no-token text words) (omega arith) h (topicsWith text lent)

@@ -28,7 +28,7 @@ use Rattle.model.specs.declared.Answer.{Answer}
 use Rattle.references.proofs.NumberLaws.{Refuses, refusal-late}
 use Rattle.language.specs.Range.{rangeOf}
 use Rattle.language.specs.Section.{Lists}
-use Rattle.language.specs.Read.{parsed, ruleOf, lexedFrom, byPrimary, byText, bySheet, Outcome, readOf}
+use Rattle.language.specs.Read.{parsed, topicsWith, ruleOf, lexedFrom, byPrimary, byText, bySheet, Outcome, readOf}
 use Rattle.language.proofs.RefusalLaws.{rule-refuses}
 
 -- neither the parser nor the lexer answers with the number of a question that is asked first
@@ -38,30 +38,30 @@ parsed-late l (ok lists j) h = refl
 parsed-late l (no r) h =
     refusal-late (r .number) h
 
-lexed-late : {text : List ℕ} {before : List Character} (view : View) (whole : Lexing) {l : Lexing} → Laid text before l →
-    isAskedFirst (lexedFrom text view whole l .number) ≡ false
+lexed-late : {text : List ℕ} {before : List Character} (view : View) (lent : List ℕ) (whole : Lexing) {l : Lexing} → Laid text before l →
+    isAskedFirst (lexedFrom text view lent whole l .number) ≡ false
 unfolding lexedFrom refusedWith ruleOf
-lexed-late {text} view whole (end gap t h) =
+lexed-late {text} view lent whole (end gap t h) =
     let words = recordWords whole in
-    parsed-late whole (ruleOf text words view) (rule-refuses (tokens text words) view (rangeOf words) (capacity words))
-lexed-late view whole (refusal gap c rest t h n) = lexical-late n
-lexed-late view whole (next gap u rest t s h k) = lexed-late view whole k
+    parsed-late whole (ruleOf text words view lent) (rule-refuses (tokens text words) view (rangeOf words) (topicsWith text lent) (capacity words))
+lexed-late view lent whole (refusal gap c rest t h n) = lexical-late n
+lexed-late view lent whole (next gap u rest t s h k) = lexed-late view lent whole k
 
-module _ (call : Call) (text sheet words : List ℕ) where
+module _ (call : Call) (text sheet lent words : List ℕ) where
   abbrev Held : Outcome → Type 0
   Held o = Holds (frontOf (o .answer .number) text) words (o .buffer)
 
-  own-held : leastWords ≤ length words → (own : Bool) → Held (byPrimary text (seen call sheet) words own)
+  own-held : leastWords ≤ length words → (own : Bool) → Held (byPrimary text (seen call sheet) lent words own)
   unfolding byPrimary refusedWith frontOf
-  own-held room true = rw (lexed-late (seen call sheet) (lexText text) (laid text)) (records-held text words room)
+  own-held room true = rw (lexed-late (seen call sheet) lent (lexText text) (laid text)) (records-held text words room)
   own-held room false = asked-held 53 text words refl
 
-  text-held : leastWords ≤ length words → (own : Bool) (c : Checked) → Held (byText text (seen call sheet) words own c)
+  text-held : leastWords ≤ length words → (own : Bool) (c : Checked) → Held (byText text (seen call sheet) lent words own c)
   unfolding byText refusedWith
   text-held room own WellFormed = own-held room own
   text-held room own (IllFormed line column) = asked-held 4 text words refl
 
-  sheet-held : leastWords ≤ length words → (own : Bool) (x : Sheet) → Held (bySheet text (seen call sheet) words own x)
+  sheet-held : leastWords ≤ length words → (own : Bool) (x : Sheet) → Held (bySheet text (seen call sheet) lent words own x)
   unfolding bySheet refusedWith
   sheet-held room own well-formed = text-held room own (checkOf text)
   sheet-held room own (bad-line n) = asked-held 3 text words refl
@@ -69,17 +69,17 @@ module _ (call : Call) (text sheet words : List ℕ) where
   asked-first : (t u : Bool) → (u ≡ false → leastWords ≤ length words) →
       Held
       (pick t (record { answer = refusedWith 1 0 0 0; buffer = words })
-      (pick u (record { answer = refusedWith 2 0 0 0; buffer = words }) (bySheet text (seen call sheet) words (ownPrimary call sheet) (sheetCheck sheet))))
+      (pick u (record { answer = refusedWith 2 0 0 0; buffer = words }) (bySheet text (seen call sheet) lent words (ownPrimary call sheet) (sheetCheck sheet))))
   unfolding refusedWith
   asked-first true u h = asked-held 1 text words refl
   asked-first false true h = asked-held 2 text words refl
   asked-first false false h = sheet-held (h refl) (ownPrimary call sheet) (sheetCheck sheet)
 
-  read-held : Held (readOf call text sheet words)
+  read-held : Held (readOf call text sheet lent words)
   unfolding readOf
   read-held = asked-first (ltb mostBytes (length text)) (ltb (length words) leastWords) (ltb-false (length words) leastWords)
 
 -- of what a call that answers x left in the words
-pub read-holds : (call : Call) (text sheet words : List ℕ) {x : Answer} {exit : List ℕ} → x ≡ readOf call text sheet words .answer →
-    exit ≡ readOf call text sheet words .buffer → Holds (frontOf (x .number) text) words exit
-read-holds call text sheet words e f = rw (e, f) (read-held call text sheet words)
+pub read-holds : (call : Call) (text sheet lent words : List ℕ) {x : Answer} {exit : List ℕ} → x ≡ readOf call text sheet lent words .answer →
+    exit ≡ readOf call text sheet lent words .buffer → Holds (frontOf (x .number) text) words exit
+read-holds call text sheet lent words e f = rw (e, f) (read-held call text sheet lent words)

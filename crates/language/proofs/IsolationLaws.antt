@@ -6,4 +6,4 @@ use Rattle.language.specs.Isolation.{Isolated}
 
 pub isolated : Isolated
 unfolding readOf
-isolated call text s t words p q a = rw (p, q, agree-seen call a, agree-primary call a)
+isolated call text s t lent words p q a = rw (p, q, agree-seen call a, agree-primary call a)

@@ -1,4 +1,5 @@
 pub mod WordLaws
+pub mod TopicLaws
 pub mod TimeLaws
 pub mod ExprLaws
 pub mod TriggerSound

@@ -71,6 +71,7 @@ module _ {t : ℕ → Tok} {view : View} {range : ℕ → Name} (sees : View-in-
   trigger-in (Trigger-of.controller-starts w p) = tt
   trigger-in (Trigger-of.controller-becomes-active w p) = tt
   trigger-in (Trigger-of.http-trigger w v) = tt
+  trigger-in (Trigger-of.mqtt-message w a topic) = tt
   trigger-in (Trigger-of.every w d l) = tt
   trigger-in (Trigger-of.at-time w b) = tt
   trigger-in (Trigger-of.at-solar w b) = tt

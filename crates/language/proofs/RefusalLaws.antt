@@ -14,9 +14,10 @@ use Rattle.model.specs.declared.TimeBound.the-variants.{Clock, Solar}
 use Rattle.language.specs.Words.{namedPhrase, targetFor, propertyWord}
 use Rattle.language.specs.Timeval.{offsetBound, offsetAt, withOffset, solarAt, timeBound}
 use Rattle.language.specs.Expr.{lampReading, groupReading, inputReading, timeReading, sunReading, eventReading, varReading, readingBy, readingAt, literalAt, deltaAt, withDelta, readValue, valueAt}
-use Rattle.language.specs.Trigger.{timerTrigger, ruleTrigger, controllerTrigger, httpTrigger, everyTrigger, atBound, atTrigger, sceneClosed, sceneTrigger, deviceTrigger, groupTrigger, hclTrigger, levelCross, lampChange, lampTrigger, inputDeviceTrigger, rawData, rawEvent, eventAt, inputEvent, inputBecomes, lightCross, positionChange, propertyTrigger, pointTrigger, inputChange, inputTrigger, triggerBy, triggerAt}
+use Rattle.language.specs.Trigger.{timerTrigger, ruleTrigger, controllerTrigger, httpTrigger, mqttTrigger, everyTrigger, atBound, atTrigger, sceneClosed, sceneTrigger, deviceTrigger, groupTrigger, hclTrigger, levelCross, lampChange, lampTrigger, inputDeviceTrigger, rawData, rawEvent, eventAt, inputEvent, inputBecomes, lightCross, positionChange, propertyTrigger, pointTrigger, inputChange, inputTrigger, triggerBy, triggerAt}
 use Rattle.language.specs.Condition.{comparisonBy, comparisonAt, controllerCondition, timerCondition, ruleCondition, lastFiredCondition, deviceCondition, sunCondition, timeTo, timeCondition, groupCondition, hclCondition, lampJudged, lampCompared, lampPoint, lampState, lampCondition, lightThan, inputState, inputCondition, textOperand, operandAt, varCompared, varCondition, conditionBy, conditionAt}
-use Rattle.language.specs.Section.{repeated, whenSection, ifSection, atEnd, ruleAt}
+use Rattle.language.specs.Section.{repeated, Topics, triggerNamed, whenSection, ifSection, atEnd, ruleAt}
+use Rattle.language.proofs.TopicLaws.{topic-refuses}
 
 -- the steps that several forms share, and time bounds
 module _ (t : ℕ → Tok) where
@@ -82,6 +83,7 @@ ruleset forms = (
   for-refuses,
   bound-refuses,
   at-refuses,
+  topic-refuses,
 )
 
 -- VALUE, triggers and conditions: a new form's definitions join the `unfolding` line
@@ -94,7 +96,7 @@ module _ (t : ℕ → Tok) (view : View) (range : ℕ → Name) (fuel : ℕ) whe
   trigger-refuses : (i : ℕ) → Refuses (triggerAt t view range fuel i)
   unfolding triggerAt triggerBy inputTrigger inputChange pointTrigger propertyTrigger positionChange lightCross inputBecomes inputEvent
       eventAt rawEvent rawData inputDeviceTrigger lampTrigger lampChange levelCross hclTrigger groupTrigger deviceTrigger sceneTrigger
-      sceneClosed atTrigger everyTrigger httpTrigger controllerTrigger ruleTrigger timerTrigger
+      sceneClosed atTrigger everyTrigger mqttTrigger httpTrigger controllerTrigger ruleTrigger timerTrigger
   trigger-refuses i = search forms depth 40
 
   condition-refuses : (i : ℕ) → Refuses (conditionAt t view range fuel i)
@@ -104,13 +106,21 @@ module _ (t : ℕ → Tok) (view : View) (range : ℕ → Name) (fuel : ℕ) whe
   condition-refuses i = search (forms, value-refuses) depth 40 fits 9000
 
 -- a repeated form refuses as the form does, or with its own number
-repeated-refuses : {A : Type 0} (t : ℕ → Tok) (word : List ℕ) (number : ℕ) (form : ℕ → Res A) → isRefusal number ≡ true →
-    ((i : ℕ) → Refuses (form i)) → (most i : ℕ) → Refuses (repeated t word number form most i)
+repeated-refuses : {S A : Type 0} (t : ℕ → Tok) (word : List ℕ) (number : ℕ) (form : S → ℕ → Res A) (after : S → A → S) → isRefusal number ≡ true →
+    ((s : S) (i : ℕ) → Refuses (form s i)) → (s : S) (most i : ℕ) → Refuses (repeated t word number form after s most i)
 unfolding repeated
-repeated-refuses t word number form e h zero i = search refusals
-repeated-refuses t word number form e h (suc most) i = search (refusals, repeated-refuses t word number form e h most)
+repeated-refuses t word number form after e h s zero i = search refusals
+repeated-refuses {A = A} t word number form after e h s (suc most) i =
+    let next : (x : A) (k : ℕ) → Refuses (repeated t word number form after (after s x) most k) =
+    λ x k. repeated-refuses t word number form after e h (after s x) most k in
+    search (refusals, h, next)
+
+judged-refuses : (t : ℕ → Tok) (view : View) (range : ℕ → Name) (topics : Topics) (fuel : ℕ) (named : List (List ℕ)) (i : ℕ) →
+    Refuses (triggerNamed t view range topics fuel named i)
+unfolding triggerNamed
+judged-refuses t view range topics fuel named i = search (refusals, trigger-refuses)
 
 -- every refusal of a rule has one of these numbers
-pub rule-refuses : (t : ℕ → Tok) (view : View) (range : ℕ → Name) (fuel : ℕ) → Refuses (ruleAt t view range fuel)
+pub rule-refuses : (t : ℕ → Tok) (view : View) (range : ℕ → Name) (topics : Topics) (fuel : ℕ) → Refuses (ruleAt t view range topics fuel)
 unfolding ruleAt whenSection ifSection atEnd
-rule-refuses t view range fuel = search (refusals, repeated-refuses, trigger-refuses, condition-refuses) depth 9
+rule-refuses t view range topics fuel = search (refusals, repeated-refuses, judged-refuses, condition-refuses) depth 9

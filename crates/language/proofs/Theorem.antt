@@ -34,7 +34,7 @@ use Rattle.language.proofs.RefusalLaws.{rule-refuses}
 use Rattle.language.proofs.RangeLaws.{ranges}
 use Rattle.language.specs.Section.{Lists}
 use Rattle.language.specs.Range.{rangeOf}
-use Rattle.language.specs.Read.{parsed, ruleOf, lexedFrom, byPrimary, byText, bySheet, Outcome, readOf}
+use Rattle.language.specs.Read.{parsed, topicsWith, ruleOf, lexedFrom, byPrimary, byText, bySheet, Outcome, readOf}
 use Rattle.language.specs.Demand.{Gives, Has-reading, Accepts, Exact}
 use Rattle.language.specs.grammar.Text.{Reading-with}
 use Rattle.model.specs.declared.Trigger.{Trigger}
@@ -42,44 +42,44 @@ use Rattle.model.specs.declared.Condition.{Condition}
 use Rattle.model.specs.declared.Answer.{Answer}
 use Rattle.language.proofs.WordLaws.{End}
 use Rattle.tokens.proofs.BufferLaws.{same-lexing, most-tokens, lexical}
-use Rattle.language.proofs.TextLaws.{rule-sound, rule-complete, one-reading}
+use Rattle.language.proofs.TextLaws.{Read-with, rule-sound, rule-complete, one-reading}
 
 -- an answer with number 0 comes from a lexing that ended, and from a rule that was parsed
-record Parsed (text : List ℕ) (view : View) (whole l : Lexing) : Type 0 where
+record Parsed (text : List ℕ) (view : View) (lent : List ℕ) (whole l : Lexing) : Type 0 where
   count : ℕ
   finished : Ended l count
-  answered : parsed whole (ruleOf text (recordWords whole) view) .number ≡ 0
+  answered : parsed whole (ruleOf text (recordWords whole) view lent) .number ≡ 0
 
-lexed-sound : (text : List ℕ) (view : View) (whole l : Lexing) {before : List Character} → Laid text before l →
-    lexedFrom text view whole l .number ≡ 0 → Parsed text view whole l
+lexed-sound : (text : List ℕ) (view : View) (lent : List ℕ) (whole l : Lexing) {before : List Character} → Laid text before l →
+    lexedFrom text view lent whole l .number ≡ 0 → Parsed text view lent whole l
 unfolding lexedFrom refusedWith
-lexed-sound text view whole l (end gap t h) e = record { count = 0; finished = at-end; answered = e }
-lexed-sound text view whole l (refusal gap c rest t h n) e = absurd (lexical n e)
-lexed-sound text view whole l (next gap u rest t s h k) e =
-    let p = lexed-sound text view whole _ k e in
+lexed-sound text view lent whole l (end gap t h) e = record { count = 0; finished = at-end; answered = e }
+lexed-sound text view lent whole l (refusal gap c rest t h n) e = absurd (lexical n e)
+lexed-sound text view lent whole l (next gap u rest t s h k) e =
+    let p = lexed-sound text view lent whole _ k e in
     record { count = suc (p .count); finished = behind (p .finished); answered = p .answered }
 
 -- an answer that was parsed with number 0 has a reading's lists
-record Read (text words : List ℕ) (view : View) (answer : Answer) : Type 0 where
+record Read (text words : List ℕ) (view : View) (lent : List ℕ) (answer : Answer) : Type 0 where
   triggers : List Trigger
   conditions : List Condition
   lists : answer ≡ acceptedWith triggers conditions
-  reads : Reading-with (tokens text words) view (rangeOf words) triggers conditions
+  reads : Read-with (tokens text words) view (rangeOf words) (topicsWith text lent) (capacity words) triggers conditions
 
-parsed-sound : (text words : List ℕ) (view : View) (l : Lexing) (m : Res Lists) → Refuses m →
-    Okay (λ lists j. Reading-with (tokens text words) view (rangeOf words) (lists .triggers) (lists .conditions)) m →
-    parsed l m .number ≡ 0 → Read text words view (parsed l m)
+parsed-sound : (text words : List ℕ) (view : View) (lent : List ℕ) (l : Lexing) (m : Res Lists) → Refuses m →
+    Okay (λ lists j. Read-with (tokens text words) view (rangeOf words) (topicsWith text lent) (capacity words) (lists .triggers) (lists .conditions)) m →
+    parsed l m .number ≡ 0 → Read text words view lent (parsed l m)
 unfolding parsed refusedWith Refuses
-parsed-sound text words view l (ok lists j) n h e =
+parsed-sound text words view lent l (ok lists j) n h e =
     record { triggers = lists .triggers; conditions = lists .conditions; lists = refl; reads = h }
-parsed-sound text words view l (no r) n h e = let some = refusal-least (r .number) n in absurd (omega arith)
+parsed-sound text words view lent l (no r) n h e = let some = refusal-least (r .number) n in absurd (omega arith)
 
 -- a lexing that ends is parsed
-pub lexed-complete : (text : List ℕ) (view : View) (whole : Lexing) {l : Lexing} {count : ℕ} → Ended l count →
-    lexedFrom text view whole l ≡ parsed whole (ruleOf text (recordWords whole) view)
+pub lexed-complete : (text : List ℕ) (view : View) (lent : List ℕ) (whole : Lexing) {l : Lexing} {count : ℕ} → Ended l count →
+    lexedFrom text view lent whole l ≡ parsed whole (ruleOf text (recordWords whole) view lent)
 unfolding lexedFrom
-lexed-complete text view whole at-end = refl
-lexed-complete text view whole (behind e) = lexed-complete text view whole e
+lexed-complete text view lent whole at-end = refl
+lexed-complete text view lent whole (behind e) = lexed-complete text view lent whole e
 
 -- a text whose bytes are characters passes question 4
 passes : {text characters : List ℕ} → Utf8-octets text characters → checkOf text ≡ WellFormed
@@ -106,26 +106,26 @@ unfolding lexText
 few text h = most-tokens mostTokens text start h
 
 -- Accepted with number 0: the questions from the last to the first.
-module _ (call : Call) (in-range : call .primary ≤ lastAdapter) (text sheet words : List ℕ) where
+module _ (call : Call) (in-range : call .primary ≤ lastAdapter) (text sheet lent words : List ℕ) where
   abbrev Sound : Outcome → Type 0
-  Sound o = o .answer .number ≡ 0 → Accepts call text sheet (length words) (o .answer)
+  Sound o = o .answer .number ≡ 0 → Accepts call text sheet lent (length words) (o .answer)
 
   own-sound : length text ≤ mostBytes → leastWords ≤ length words → sheetCheck sheet ≡ well-formed → {characters : List ℕ} →
-      Utf8-octets text characters → (own : Bool) → ownPrimary call sheet ≡ own → Sound (byPrimary text (seen call sheet) words own)
+      Utf8-octets text characters → (own : Bool) → ownPrimary call sheet ≡ own → Sound (byPrimary text (seen call sheet) lent words own)
   unfolding byPrimary refusedWith ruleOf
   own-sound short room sheet-passes octets false owns e = absurd (omega arith)
   own-sound short room sheet-passes octets true owns e =
       let whole = lexText text in
       let records = recordWords whole in
-      let p = lexed-sound text (seen call sheet) whole whole (laid text) e in
+      let p = lexed-sound text (seen call sheet) lent whole whole (laid text) e in
       let t = tokens text records in
-      let refuses = rule-refuses t (seen call sheet) (rangeOf records) (capacity records) in
-      let sound = rule-sound t (seen call sheet) (rangeOf records) (capacity records) in
-      let read = parsed-sound text records (seen call sheet) whole (ruleOf text records (seen call sheet)) refuses sound (p .answered) in
+      let refuses = rule-refuses t (seen call sheet) (rangeOf records) (topicsWith text lent) (capacity records) in
+      let sound = rule-sound t (seen call sheet) (rangeOf records) (topicsWith text lent) (capacity records) in
+      let read = parsed-sound text records (seen call sheet) lent whole (ruleOf text records (seen call sheet) lent) refuses sound (p .answered) in
       record {
         triggers = read .triggers;
         conditions = read .conditions;
-        lists = lexed-complete text (seen call sheet) whole (p .finished) ∙ read .lists;
+        lists = lexed-complete text (seen call sheet) lent whole (p .finished) ∙ read .lists;
         reads =
             record {
               room = room;
@@ -135,26 +135,27 @@ module _ (call : Call) (in-range : call .primary ≤ lastAdapter) (text sheet wo
               count = p .count;
               gives = gives short octets (p .finished);
               few = few text (p .finished);
-              reading = read .reads;
+              reading = read .reads .0;
+              topics = read .reads .1;
             };
-        ranges = ranges call sheet in-range (read .reads);
+        ranges = ranges call sheet in-range (read .reads .0);
       }
 
   text-sound : length text ≤ mostBytes → leastWords ≤ length words → sheetCheck sheet ≡ well-formed → (c : Checked) → Judged text c →
-      Sound (byText text (seen call sheet) words (ownPrimary call sheet) c)
+      Sound (byText text (seen call sheet) lent words (ownPrimary call sheet) c)
   unfolding byText refusedWith
   text-sound short room sheet-passes (IllFormed line column) j e = absurd (omega arith)
   text-sound short room sheet-passes WellFormed (judged-well octets) e =
       own-sound short room sheet-passes octets (ownPrimary call sheet) refl e
 
   sheet-sound : length text ≤ mostBytes → leastWords ≤ length words → (x : Sheet) → sheetCheck sheet ≡ x →
-      Sound (bySheet text (seen call sheet) words (ownPrimary call sheet) x)
+      Sound (bySheet text (seen call sheet) lent words (ownPrimary call sheet) x)
   unfolding bySheet refusedWith
   sheet-sound short room (bad-line n) p e = absurd (omega arith)
   sheet-sound short room well-formed p e = text-sound short room p (checkOf text) (judged text) e
 
   room-sound : length text ≤ mostBytes → (b : Bool) → ltb (length words) leastWords ≡ b →
-      Sound (pick b (record { answer = refusedWith 2 0 0 0; buffer = words }) (bySheet text (seen call sheet) words (ownPrimary call sheet) (sheetCheck sheet)))
+      Sound (pick b (record { answer = refusedWith 2 0 0 0; buffer = words }) (bySheet text (seen call sheet) lent words (ownPrimary call sheet) (sheetCheck sheet)))
   unfolding refusedWith
   room-sound short true p e = absurd (omega arith)
   room-sound short false p e = sheet-sound short (ltb-false _ _ p) (sheetCheck sheet) refl e
@@ -162,22 +163,22 @@ module _ (call : Call) (in-range : call .primary ≤ lastAdapter) (text sheet wo
   short-sound : (b : Bool) → ltb mostBytes (length text) ≡ b →
       Sound
       (pick b (record { answer = refusedWith 1 0 0 0; buffer = words })
-      (pick (ltb (length words) leastWords) (record { answer = refusedWith 2 0 0 0; buffer = words }) (bySheet text (seen call sheet) words (ownPrimary call sheet) (sheetCheck sheet))))
+      (pick (ltb (length words) leastWords) (record { answer = refusedWith 2 0 0 0; buffer = words }) (bySheet text (seen call sheet) lent words (ownPrimary call sheet) (sheetCheck sheet))))
   unfolding refusedWith
   short-sound true p e = absurd (omega arith)
   short-sound false p e = room-sound (ltb-false _ _ p) (ltb (length words) leastWords) refl e
 
-  sound : Sound (readOf call text sheet words)
+  sound : Sound (readOf call text sheet lent words)
   unfolding readOf
   sound e = short-sound (ltb mostBytes (length text)) refl e
 
-complete : (call : Call) (text sheet words : List ℕ) (xs : List Trigger) (ys : List Condition) → Has-reading call text sheet (length words) xs ys →
-    readOf call text sheet words .answer ≡ acceptedWith xs ys
+complete : (call : Call) (text sheet lent words : List ℕ) (xs : List Trigger) (ys : List Condition) → Has-reading call text sheet lent (length words) xs ys →
+    readOf call text sheet lent words .answer ≡ acceptedWith xs ys
 unfolding readOf bySheet byText byPrimary ruleOf parsed
-complete call text sheet words xs ys h =
+complete call text sheet lent words xs ys h =
     let l = h .lexing in
     let records = recordWords l in
-    let rule = rule-complete (tokens text records) (seen call sheet) (rangeOf records) (capacity records) (past text records) (h .reading) in
+    let rule = rule-complete (tokens text records) (seen call sheet) (rangeOf records) (topicsWith text lent) (capacity records) (past text records) (h .reading, h .topics) in
     rw (
       le-ltb mostBytes (length text) (h .gives .short),
       le-ltb (length words) leastWords (h .room),
@@ -185,29 +186,34 @@ complete call text sheet words xs ys h =
       h .own,
       passes (h .gives .octets),
       given (h .gives) (h .few),
-      lexed-complete text (seen call sheet) l (h .gives .finished),
+      lexed-complete text (seen call sheet) lent l (h .gives .finished),
       rule .1,
     )
 
--- two readings of the same tokens with the same view are equal
-pub one-reading-only : (text words : List ℕ) (view : View) {xs us : List Trigger} {ys vs : List Condition} →
-    Reading-with (tokens text words) view (rangeOf words) xs ys → Reading-with (tokens text words) view (rangeOf words) us vs →
-    (xs ≡ us) × (ys ≡ vs)
-one-reading-only text words view h g = one-reading (tokens text words) view (rangeOf words) (capacity words) (past text words) h g
+-- two readings of the same tokens with the same view and the same lent topics are equal
+pub one-reading-only : (text words : List ℕ) (view : View) (lent : List ℕ) {xs us : List Trigger} {ys vs : List Condition} →
+    Read-with (tokens text words) view (rangeOf words) (topicsWith text lent) (capacity words) xs ys →
+    Read-with (tokens text words) view (rangeOf words) (topicsWith text lent) (capacity words) us vs → (xs ≡ us) × (ys ≡ vs)
+one-reading-only text words view lent h g =
+    one-reading (tokens text words) view (rangeOf words) (topicsWith text lent) (capacity words) (past text words) h g
 
 -- a reading of a text is one of the tokens that the call lexes
-as-lexed : {call : Call} {text sheet : List ℕ} {size : ℕ} {xs : List Trigger} {ys : List Condition} → Has-reading call text sheet size xs ys →
-    Reading-with (tokens text (recordWords (lexText text))) (seen call sheet) (rangeOf (recordWords (lexText text))) xs ys
-as-lexed {call} {text} {sheet} {xs = xs} {ys = ys} h =
-    subst (λ (l : Lexing). Reading-with (tokens text (recordWords l)) (seen call sheet) (rangeOf (recordWords l)) xs ys)
-    (sym (given (h .gives) (h .few))) (h .reading)
+as-lexed : {call : Call} {text sheet lent : List ℕ} {size : ℕ} {xs : List Trigger} {ys : List Condition} →
+    Has-reading call text sheet lent size xs ys →
+    Read-with (tokens text (recordWords (lexText text))) (seen call sheet) (rangeOf (recordWords (lexText text))) (topicsWith text lent)
+    (capacity (recordWords (lexText text))) xs ys
+as-lexed {call} {text} {sheet} {xs = xs} {ys = ys} h = (
+  subst (λ (l : Lexing). Reading-with (tokens text (recordWords l)) (seen call sheet) (rangeOf (recordWords l)) xs ys)
+      (sym (given (h .gives) (h .few))) (h .reading),
+  h .topics,
+)
 
 -- the third demand: for every call, text, sheet and buffer. A call's primary adapter is a byte.
-pub exact : (call : Call) → call .primary ≤ lastAdapter → (text sheet words : List ℕ) → Exact call text sheet (length words) (readOf call text sheet words .answer)
-exact call in-range text sheet words =
+pub exact : (call : Call) → call .primary ≤ lastAdapter → (text sheet lent words : List ℕ) → Exact call text sheet lent (length words) (readOf call text sheet lent words .answer)
+exact call in-range text sheet lent words =
     record {
-      sound = sound call in-range text sheet words;
-      complete = complete call text sheet words;
-      one = λ xs us ys vs h g. one-reading-only text (recordWords (lexText text)) (seen call sheet) (as-lexed h) (as-lexed g);
-      durations = λ e. durations text (sound call in-range text sheet words e .reads .gives .short);
+      sound = sound call in-range text sheet lent words;
+      complete = complete call text sheet lent words;
+      one = λ xs us ys vs h g. one-reading-only text (recordWords (lexText text)) (seen call sheet) lent (as-lexed h) (as-lexed g);
+      durations = λ e. durations text (sound call in-range text sheet lent words e .reads .gives .short);
     }

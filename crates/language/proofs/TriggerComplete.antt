@@ -25,9 +25,10 @@ use Rattle.model.specs.declared.Selector.{Selector}
 use Rattle.model.specs.declared.Event.{Event}
 use Rattle.model.specs.declared.Trigger.{Trigger}
 use Rattle.language.specs.Limits.{leastPeriod}
-use Rattle.language.specs.Trigger.{powerOf, crossingOf, occupancyOf, aggregateOf, onlineOf, overrideOf, timerTrigger, ruleTrigger, controllerChange, controllerTrigger, httpTrigger, everyTrigger, atBound, atTrigger, sceneClosed, sceneTrigger, deviceTrigger, groupTrigger, hclTrigger, levelCross, lampChange, lampTrigger, inputDeviceChange, inputDeviceTrigger, rawData, rawEvent, eventOf, eventWords, eventAt, inputEvent, inputBecomes, lightCross, positionChange, propertyTrigger, pointTrigger, inputChange, inputTrigger, triggerWords, triggerBy, triggerAt}
-use Rattle.language.specs.grammar.Trigger.{Event-of, press, release, short-press, double-press, long-press-start, long-press-repeat, long-press-stop, button-free, button-stuck, movement, no-movement, any-event, raw, Trigger-of, timer-fires, rule-fails, controller-starts, controller-becomes-active, http-trigger, every, at-time, at-solar, scene-recalled, goes-offline, comes-online, group-becomes, hcl-override, lamp-turns, lamp-level-cross, power-cycled, manual-config-changed, input-event, input-occupancy, input-light-cross, input-position-change}
+use Rattle.language.specs.Trigger.{powerOf, crossingOf, occupancyOf, aggregateOf, onlineOf, overrideOf, timerTrigger, ruleTrigger, controllerChange, controllerTrigger, httpTrigger, mqttTrigger, everyTrigger, atBound, atTrigger, sceneClosed, sceneTrigger, deviceTrigger, groupTrigger, hclTrigger, levelCross, lampChange, lampTrigger, inputDeviceChange, inputDeviceTrigger, rawData, rawEvent, eventOf, eventWords, eventAt, inputEvent, inputBecomes, lightCross, positionChange, propertyTrigger, pointTrigger, inputChange, inputTrigger, triggerWords, triggerBy, triggerAt}
+use Rattle.language.specs.grammar.Trigger.{Event-of, press, release, short-press, double-press, long-press-start, long-press-repeat, long-press-stop, button-free, button-stuck, movement, no-movement, any-event, raw, Trigger-of, timer-fires, rule-fails, controller-starts, controller-becomes-active, http-trigger, mqtt-message, every, at-time, at-solar, scene-recalled, goes-offline, comes-online, group-becomes, hcl-override, lamp-turns, lamp-level-cross, power-cycled, manual-config-changed, input-event, input-occupancy, input-light-cross, input-position-change}
 use Rattle.language.proofs.WordLaws.{End, Stops, chosen, named-complete, for-complete}
+use Rattle.language.proofs.TopicLaws.{topic-at-complete}
 use Rattle.language.proofs.TimeLaws.{bound-complete}
 
 -- the adapter of a scene
@@ -92,14 +93,14 @@ input-point {t} end h p =
 
 -- a trigger is judged by its first word
 first : {t : ℕ → Tok} (view : View) (range : ℕ → Name) (fuel n : ℕ) {i j : ℕ} {word : List ℕ} → Word t word i j →
-    position word firsts ≡ n → hasPlace firsts n ≡ true → triggerAt t view range fuel i ≡ triggerBy t view range fuel i n j
+    position word firsts ≡ n → hasPlace firsts n ≡ true → triggerAt t view range fuel i ≡ triggerBy t view range fuel n j
 unfolding triggerAt
 first {t} view range fuel n w e h = rw (chosen t triggerWords 21 first-list n w e h)
 
--- a reading of a trigger is answered, with as much fuel as there are tokens, where neither a sign nor `on` follows
+-- a reading of a trigger is answered, with as much fuel as there are tokens, where neither a sign nor `on` nor `is` follows
 pub trigger-complete : {t : ℕ → Tok} {view : View} {range : ℕ → Name} {fuel i j : ℕ} {x : Trigger} → End t fuel → Stops t j →
     Trigger-of t view range i x j → triggerAt t view range fuel i ≡ ok x j
-unfolding triggerBy timerTrigger ruleTrigger controllerTrigger controllerChange httpTrigger everyTrigger atBound atTrigger sceneClosed
+unfolding triggerBy timerTrigger ruleTrigger controllerTrigger controllerChange httpTrigger mqttTrigger everyTrigger atBound atTrigger sceneClosed
     sceneTrigger deviceTrigger onlineOf groupTrigger aggregateOf hclTrigger overrideOf levelCross crossingOf lampChange powerOf lampTrigger
     inputDeviceChange inputDeviceTrigger inputTrigger inputEvent inputBecomes occupancyOf lightCross positionChange propertyTrigger
     pointTrigger inputChange oneInstance phraseChoice wordsIn split position sameBytes
@@ -110,6 +111,7 @@ trigger-complete {t} end s (controller-starts w p) =
 trigger-complete {t} end s (controller-becomes-active w p) =
     rw (first _ _ _ 9 w refl refl, either-second t (ascii "starts") (ascii "becomes active") refl refl refl p)
 trigger-complete {t} end s (http-trigger w h) = rw (first _ _ _ 11 w refl refl, word-complete t h)
+trigger-complete {t} end s (mqtt-message w h topic) = rw (first _ _ _ 12 w refl refl, topic-at-complete h topic, s .no-is)
 trigger-complete {t} end s (every {ms = ms} w h l) = rw (first _ _ _ 2 w refl refl, kind-complete t refl h, le-ltb ms leastPeriod l)
 trigger-complete {t} end s (at-time w h) = rw (first _ _ _ 1 w refl refl, bound-complete (s .unsigned) h, s .no-on)
 trigger-complete {t} end s (at-solar w h) = rw (first _ _ _ 1 w refl refl, bound-complete (s .unsigned) h)

@@ -30,10 +30,11 @@ use Rattle.model.specs.declared.Trigger.the-variants.{HclOverride, TimerFires, 
 use Rattle.language.specs.Limits.{leastPeriod}
 use Rattle.language.specs.Words.{namedPhrase, targetFor}
 use Rattle.language.specs.Timeval.{timeBound}
-use Rattle.language.specs.Trigger.{powerOf, crossingOf, occupancyOf, aggregateOf, onlineOf, overrideOf, timerTrigger, ruleTrigger, controllerChange, controllerTrigger, httpTrigger, everyTrigger, atBound, atTrigger, sceneClosed, sceneTrigger, deviceTrigger, groupTrigger, hclTrigger, levelCross, lampChange, lampTrigger, inputDeviceChange, inputDeviceTrigger, rawData, rawEvent, eventOf, eventWords, eventAt, inputEvent, inputBecomes, lightCross, positionChange, propertyTrigger, pointTrigger, inputChange, inputTrigger, triggerWords, triggerBy, triggerAt}
+use Rattle.language.specs.Trigger.{powerOf, crossingOf, occupancyOf, aggregateOf, onlineOf, overrideOf, timerTrigger, ruleTrigger, controllerChange, controllerTrigger, httpTrigger, topicAt, mqttTrigger, everyTrigger, atBound, atTrigger, sceneClosed, sceneTrigger, deviceTrigger, groupTrigger, hclTrigger, levelCross, lampChange, lampTrigger, inputDeviceChange, inputDeviceTrigger, rawData, rawEvent, eventOf, eventWords, eventAt, inputEvent, inputBecomes, lightCross, positionChange, propertyTrigger, pointTrigger, inputChange, inputTrigger, triggerWords, triggerBy, triggerAt}
 use Rattle.language.specs.grammar.Timeval.{Bound}
-use Rattle.language.specs.grammar.Trigger.{Event-of, press, release, short-press, double-press, long-press-start, long-press-repeat, long-press-stop, button-free, button-stuck, movement, no-movement, any-event, raw, Starts-clears, Trigger-of, timer-fires, rule-fails, controller-starts, controller-becomes-active, http-trigger, every, at-time, at-solar, scene-recalled, goes-offline, comes-online, group-becomes, hcl-override, lamp-turns, lamp-level-cross, power-cycled, manual-config-changed, input-event, input-occupancy, input-light-cross, input-position-change}
+use Rattle.language.specs.grammar.Trigger.{Event-of, press, release, short-press, double-press, long-press-start, long-press-repeat, long-press-stop, button-free, button-stuck, movement, no-movement, any-event, raw, Starts-clears, Trigger-of, timer-fires, rule-fails, controller-starts, controller-becomes-active, http-trigger, mqtt-message, every, at-time, at-solar, scene-recalled, goes-offline, comes-online, group-becomes, hcl-override, lamp-turns, lamp-level-cross, power-cycled, manual-config-changed, input-event, input-occupancy, input-light-cross, input-position-change}
 use Rattle.language.proofs.WordLaws.{then-kind, then-word, then-up-to, perhaps-word, Named-phrase, named-phrase, named-sound, For-target, for-target, for-sound}
+use Rattle.language.proofs.TopicLaws.{topic-at-sound}
 use Rattle.language.proofs.TimeLaws.{bound-sound}
 
 -- the adapter of a scene
@@ -114,6 +115,13 @@ module _ (t : ℕ → Tok) (view : View) (range : ℕ → Name) where
     http-sound : Word t (ascii "http") i j → Okay (Trigger-of t view range i) (httpTrigger t j)
     unfolding httpTrigger
     http-sound w = then-word t (Trigger-of t view range i) (ascii "trigger") j _ (λ a k h. http-trigger w h)
+
+    mqtt-sound : Word t (ascii "mqtt") i j → Okay (Trigger-of t view range i) (mqttTrigger t range j)
+    unfolding mqttTrigger
+    mqtt-sound w =
+        let G = Trigger-of t view range i in
+        bind-ok G (topicAt t j) _ (topic-at-sound t j)
+        (λ n k h. pick-ok G (isWord t (ascii "is") k) _ _ (λ e. tt) (λ e. mqtt-message w (h .string) (h .topic)))
 
     every-sound : Word t (ascii "every") i j → Okay (Trigger-of t view range i) (everyTrigger t j)
     unfolding everyTrigger
@@ -273,7 +281,7 @@ module _ (t : ℕ → Tok) (view : View) (range : ℕ → Name) where
                         (λ j w. timer-sound i j w),
                         (
                           (λ j w. controller-sound i j w),
-                          ((λ j w. rule-sound i j w), ((λ j w. http-sound i j w), ((λ j w. tt), tt))),
+                          ((λ j w. rule-sound i j w), ((λ j w. http-sound i j w), ((λ j w. mqtt-sound i j w), tt))),
                         ),
                       ),
                     ),

@@ -27,10 +27,11 @@ pub record Unsigned (t : ℕ → Tok) (i : ℕ) : Type 0 where
   pub no-plus : t i .kind ≡ 21 → ⊥
   pub no-minus : t i .kind ≡ 22 → ⊥
 
--- neither a sign nor `on`
+-- neither a sign nor `on` nor `is`
 pub record Stops (t : ℕ → Tok) (i : ℕ) : Type 0 where
   pub unsigned : Unsigned t i
   pub no-on : isWord t (ascii "on") i ≡ false
+  pub no-is : isWord t (ascii "is") i ≡ false
 
 -- One step, for any form G that goes on with it.
 module _ (t : ℕ → Tok) {B : Type 0} (G : B → ℕ → Type 0) where

@@ -1,5 +1,5 @@
 -- The third demand of document 01, whole, in one place: "Demand 3 is one claim about whole texts, not one for each form". Of a call with a text,
--- a sheet and a buffer of size words it says: the call is accepted exactly when the text has a reading with what the call sees of the sheet; then it
+-- a sheet, lent topics and a buffer of size words it says: the call is accepted exactly when the text has a reading with what the call sees of the sheet; then it
 -- has that reading's lists; no text has two readings; and durations are exactly what is written. Document 02: "Demands 2 and 3 and the grammar now
 -- speak of the party's rows and the call's primary, in calls whose primary is the party's" (§6), and "demand 3 covers each" habit with repeated
 -- arguments (§11): the grammar has both from what the call sees. proofs/Theorem.antt shows it of the definition of the
@@ -20,9 +20,12 @@ use Rattle.tokens.specs.Ended.{Ended, recordWords}
 use Rattle.sheet.specs.Sheet.{Sheet, well-formed, sheetCheck}
 use Rattle.sheet.specs.View.{seen, ownPrimary}
 use Rattle.sheet.specs.declared.Call.{Call}
+use Rattle.topics.specs.Topics.{lentTopics, Allowed}
+use Rattle.topics.specs.Ranges.{nameIn}
 use Rattle.model.specs.Lists.{acceptedWith}
 use Rattle.model.specs.Ranges.{In-range}
 use Rattle.language.specs.Range.{rangeOf}
+use Rattle.language.specs.Topics.{topicsOf}
 use Rattle.language.specs.grammar.Text.{Reading-with}
 use Rattle.model.specs.declared.Trigger.{Trigger}
 use Rattle.model.specs.declared.Condition.{Condition}
@@ -41,8 +44,8 @@ pub record Gives (text : List ℕ) (l : Lexing) (count : ℕ) : Type 0 where
   pub finished : Ended l count
 
 -- "A reading of a text's tokens with a sheet is a list of triggers and one of conditions": which ones the tokens have, the grammar says
--- (grammar/Text.antt). What else is asked of a call is met: 2, 3, 19 and 53.
-pub record Has-reading (call : Call) (text sheet : List ℕ) (size : ℕ) (xs : List Trigger) (ys : List Condition) : Type 0 where
+-- (grammar/Text.antt). What else is asked of a call is met: 2, 3, 19, 53 and 66.
+pub record Has-reading (call : Call) (text sheet lent : List ℕ) (size : ℕ) (xs : List Trigger) (ys : List Condition) : Type 0 where
   pub room : leastWords ≤ size
   pub sheet-passes : sheetCheck sheet ≡ well-formed
   pub own : ownPrimary call sheet ≡ true
@@ -51,13 +54,15 @@ pub record Has-reading (call : Call) (text sheet : List ℕ) (size : ℕ) (xs : 
   pub gives : Gives text lexing count
   pub few : count ≤ mostTokens
   pub reading : Reading-with (tokens text (recordWords lexing)) (seen call sheet) (rangeOf (recordWords lexing)) xs ys
+  -- document 02, §12: "A reading needs this too": where the text names a topic that is not lent, its topics and the lent come to at most eight
+  pub topics : Allowed (lentTopics lent) (topicsOf (nameIn text) xs)
 
 -- an answer with number 0: it has the lists of a reading, and in these no reference is out of its kind's range
-pub record Accepts (call : Call) (text sheet : List ℕ) (size : ℕ) (answer : Answer) : Type 0 where
+pub record Accepts (call : Call) (text sheet lent : List ℕ) (size : ℕ) (answer : Answer) : Type 0 where
   pub triggers : List Trigger
   pub conditions : List Condition
   pub lists : answer ≡ acceptedWith triggers conditions
-  pub reads : Has-reading call text sheet size triggers conditions
+  pub reads : Has-reading call text sheet lent size triggers conditions
   pub ranges : In-range triggers conditions
 
 -- each duration among the tokens whose records these words are: its milliseconds are the written decimal times the unit, with nothing rounded
@@ -65,13 +70,13 @@ abbrev pub Durations : List ℕ → List ℕ → Type 0
 Durations text words = (i : ℕ) → kindAt words i ≡ DURATION → Duration (bytesAt text words i) (numberAt words i)
 
 -- the third demand
-pub record Exact (call : Call) (text sheet : List ℕ) (size : ℕ) (answer : Answer) : Type 0 where
+pub record Exact (call : Call) (text sheet lent : List ℕ) (size : ℕ) (answer : Answer) : Type 0 where
   -- what is accepted has a reading, and is answered with that reading's lists
-  pub sound : answer .number ≡ 0 → Accepts call text sheet size answer
+  pub sound : answer .number ≡ 0 → Accepts call text sheet lent size answer
   -- what has a reading is accepted, with that reading's lists
-  pub complete : (xs : List Trigger) (ys : List Condition) → Has-reading call text sheet size xs ys → answer ≡ acceptedWith xs ys
+  pub complete : (xs : List Trigger) (ys : List Condition) → Has-reading call text sheet lent size xs ys → answer ≡ acceptedWith xs ys
   -- "that there is only one is proved, not built in"
-  pub one : (xs us : List Trigger) (ys vs : List Condition) → Has-reading call text sheet size xs ys → Has-reading call text sheet size us vs →
+  pub one : (xs us : List Trigger) (ys vs : List Condition) → Has-reading call text sheet lent size xs ys → Has-reading call text sheet lent size us vs →
       (xs ≡ us) × (ys ≡ vs)
   -- the numbers that stand for durations in an accepted text's tokens, and so in its lists
   pub durations : answer .number ≡ 0 → Durations text (recordWords (lexText text))

@@ -5,6 +5,7 @@ pub mod Timeval
 pub mod Expr
 pub mod Trigger
 pub mod Condition
+pub mod Topics
 pub mod Section
 pub mod Read
 pub mod Demand

@@ -1,11 +1,11 @@
--- Triggers: what is answered at the token behind `when` (document 01, "Grammar", and questions 20 to 40).
+-- Triggers: what is answered at the token behind `when` (document 01, "Grammar", and questions 20 to 40; `mqtt` by document 02, §12).
 use Prim.Native.Nat.{ℕ}
 use mathlib.Core.List.{List}
 use lib.Dec.{ltb, eqb}
 use Rattle.text.specs.Choice.{pick}
 use Rattle.text.specs.Literal.{ascii}
 use Rattle.tokens.specs.Result.{Res, ok, bind, perhaps, refuse}
-use Rattle.tokens.specs.Kind.{DURATION, OPEN, CLOSE, POINT, ASSIGN}
+use Rattle.tokens.specs.Kind.{STRING, DURATION, OPEN, CLOSE, POINT, ASSIGN}
 use Rattle.tokens.specs.Cursor.{Tok, isKind, isWord, takeKind, takeWord, takeIn}
 use Rattle.tokens.specs.Phrase.{choiceAt, eitherAt, phraseChoice, pointPhrase}
 use Rattle.sheet.specs.View.{View}
@@ -33,7 +33,8 @@ use Rattle.model.specs.declared.Online.the-variants.{GoesOffline, ComesOnline}
 use Rattle.model.specs.declared.Override.{Override}
 use Rattle.model.specs.declared.Override.the-variants.{Starts, Clears}
 use Rattle.model.specs.declared.Trigger.{Trigger}
-use Rattle.model.specs.declared.Trigger.the-variants.{InputEvent, InputOccupancy, InputLightCross, InputPositionChange, InputDevicePowerCycled, InputDeviceManualConfigChanged, AtTime, AtSolar, Every, LampTurns, LampLevelCross, GroupBecomes, SceneRecalled, DeviceOnline, HclOverride, TimerFires, ControllerStarts, ControllerBecomesActive, RuleFails, HttpTrigger}
+use Rattle.model.specs.declared.Trigger.the-variants.{InputEvent, InputOccupancy, InputLightCross, InputPositionChange, InputDevicePowerCycled, InputDeviceManualConfigChanged, AtTime, AtSolar, Every, LampTurns, LampLevelCross, GroupBecomes, SceneRecalled, DeviceOnline, HclOverride, TimerFires, ControllerStarts, ControllerBecomesActive, RuleFails, HttpTrigger, MqttMessage}
+use Rattle.topics.specs.Topic.{topicNumber}
 use Rattle.language.specs.Limits.{leastPeriod}
 use Rattle.language.specs.Words.{namedPhrase, targetFor}
 use Rattle.language.specs.Timeval.{timeBound}
@@ -75,6 +76,17 @@ controllerTrigger t i = bind (eitherAt t (ascii "starts") (ascii "becomes active
 -- "http trigger"
 unfoldable pub httpTrigger : (ℕ → Tok) → ℕ → Res Trigger
 httpTrigger t i = bind (takeWord t (ascii "trigger") i) (λ a j. ok HttpTrigger j)
+
+-- "an empty or forbidden topic with 64, then one over 48 bytes with 65, both at the string"; the value is the token's number, which no form uses
+unfoldable pub topicAt : (ℕ → Tok) → ℕ → Res ℕ
+topicAt t i =
+    bind (takeKind t STRING i)
+    (λ n j. let number = topicNumber (t i .bytes) in pick (eqb number 0) (ok n j) (refuse number i))
+
+-- "`mqtt` and a quoted topic"; "a following `is` stays with 40, at that `is`"
+unfoldable pub mqttTrigger : (ℕ → Tok) → (ℕ → Name) → ℕ → Res Trigger
+mqttTrigger t range i =
+    bind (topicAt t i) (λ n j. pick (isWord t (ascii "is") j) (refuse 40 j) (ok (MqttMessage (range i)) j))
 
 -- "every DURATION"; "Every period at least 1,000 ms? 35", at the duration
 unfoldable pub everyTrigger : (ℕ → Tok) → ℕ → Res Trigger
@@ -214,23 +226,23 @@ inputTrigger t view fuel i =
     perhaps (isWord t (ascii "device") i) i (λ j. inputDeviceTrigger t view j)
     (bind (inputSelector t view fuel i) (λ s j. inputChange t i s j))
 
--- the first words, and the trigger with the n-th of them at the token i, j behind it; the left-out `mqtt` is the last: 40, at that word
+-- the first words, and the trigger with the n-th of them, whose next token is i
 abbrev pub triggerWords : List ℕ
 triggerWords = ascii "input at every lamp group scene device hcl timer controller rule http mqtt"
 
-unfoldable pub triggerBy : (ℕ → Tok) → View → (ℕ → Name) → ℕ → ℕ → ℕ → ℕ → Res Trigger
-triggerBy t view range fuel i n j =
-    pick (eqb n 0) (inputTrigger t view fuel j)
-    (pick (eqb n 1) (atTrigger t j)
-    (pick (eqb n 2) (everyTrigger t j)
-    (pick (eqb n 3) (lampTrigger t view j)
-    (pick (eqb n 4) (groupTrigger t view j)
-    (pick (eqb n 5) (sceneTrigger t view j)
-    (pick (eqb n 6) (deviceTrigger t view j)
-    (pick (eqb n 7) (hclTrigger t view j)
-    (pick (eqb n 8) (timerTrigger t range j)
-    (pick (eqb n 9) (controllerTrigger t j)
-    (pick (eqb n 10) (ruleTrigger t range j) (pick (eqb n 11) (httpTrigger t j) (refuse 40 i))))))))))))
+unfoldable pub triggerBy : (ℕ → Tok) → View → (ℕ → Name) → ℕ → ℕ → ℕ → Res Trigger
+triggerBy t view range fuel n i =
+    pick (eqb n 0) (inputTrigger t view fuel i)
+    (pick (eqb n 1) (atTrigger t i)
+    (pick (eqb n 2) (everyTrigger t i)
+    (pick (eqb n 3) (lampTrigger t view i)
+    (pick (eqb n 4) (groupTrigger t view i)
+    (pick (eqb n 5) (sceneTrigger t view i)
+    (pick (eqb n 6) (deviceTrigger t view i)
+    (pick (eqb n 7) (hclTrigger t view i)
+    (pick (eqb n 8) (timerTrigger t range i)
+    (pick (eqb n 9) (controllerTrigger t i)
+    (pick (eqb n 10) (ruleTrigger t range i) (pick (eqb n 11) (httpTrigger t i) (mqttTrigger t range i))))))))))))
 
 unfoldable pub triggerAt : (ℕ → Tok) → View → (ℕ → Name) → ℕ → ℕ → Res Trigger
-triggerAt t view range fuel i = bind (choiceAt t triggerWords 21 i) (λ n j. triggerBy t view range fuel i n j)
+triggerAt t view range fuel i = bind (choiceAt t triggerWords 21 i) (λ n j. triggerBy t view range fuel n j)

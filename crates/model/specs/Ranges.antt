@@ -97,6 +97,7 @@ Trigger-in-range Trigger.ControllerStarts = Free
 Trigger-in-range Trigger.ControllerBecomesActive = Free
 Trigger-in-range (Trigger.RuleFails name) = Free
 Trigger-in-range Trigger.HttpTrigger = Free
+Trigger-in-range (Trigger.MqttMessage topic) = Free
 
 -- the references in a reading, and in a value or an operand with one
 unfoldable pub Reading-in-range : Reading → Type 0

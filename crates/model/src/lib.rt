@@ -140,6 +140,8 @@ pub enum Trigger {
     ControllerBecomesActive,
     RuleFails(Name),
     HttpTrigger,
+    // with its topic
+    MqttMessage(Name),
 }
 
 pub enum LampReading {

@@ -34,31 +34,31 @@ pred-is zero = refl
 pred-is (suc n) = omega arith
 
 -- L holds lists of A, with a count
-module _ {A L : Type 0} (of : List A → L) (with : L → A → L) (count : L → ℕ) (counts : (xs : List A) → count (of xs) ≡ length xs)
+module _ {S A L : Type 0} (of : List A → L) (with : L → A → L) (count : L → ℕ) (counts : (xs : List A) → count (of xs) ≡ length xs)
     (puts : (xs : List A) (x : A) → length xs < 4 → with (of xs) x ≡ of (xs ++ (x ∷ [])))
-    (t : ℕ → Tok) (word : List ℕ) (number : ℕ) (form : ℕ → Res A) where
-  -- the list holds the entries so far, and what is left from i on gives the whole answer
-  pub record Going (whole : Res (List A)) (list : L) (i : ℕ) : Type 0 where
+    (t : ℕ → Tok) (word : List ℕ) (number : ℕ) (form : S → ℕ → Res A) (after : S → A → S) where
+  -- the list holds the entries so far, s is what is known of them, and what is left from i on gives the whole answer
+  pub record Going (whole : Res (List A)) (list : L) (s : S) (i : ℕ) : Type 0 where
     pub entries : List A
     pub left : ℕ
     pub room : left + length entries ≡ 4
     pub stored : list ≡ of entries
-    pub same : whole ≡ onto entries (repeated t word number form left i)
+    pub same : whole ≡ onto entries (repeated t word number form after s left i)
 
-  pub begin : (i : ℕ) {list : L} → list ≡ of [] → Going (repeated t word number form 4 i) list i
-  begin i e = record { entries = []; left = 4; room = refl; stored = e; same = onto-none _ }
+  pub begin : (s : S) (i : ℕ) {list : L} → list ≡ of [] → Going (repeated t word number form after s 4 i) list s i
+  begin s i e = record { entries = []; left = 4; room = refl; stored = e; same = onto-none _ }
 
-  pub begin-with : (x : A) (i : ℕ) {list : L} → list ≡ of (x ∷ []) →
-      Going (bind (repeated t word number form 3 i) (λ ys j. ok (x ∷ ys) j)) list i
-  begin-with x i e = record { entries = x ∷ []; left = 3; room = refl; stored = e; same = refl }
+  pub begin-with : (s : S) (x : A) (i : ℕ) {list : L} → list ≡ of (x ∷ []) →
+      Going (bind (repeated t word number form after s 3 i) (λ ys j. ok (x ∷ ys) j)) list s i
+  begin-with s x i e = record { entries = x ∷ []; left = 3; room = refl; stored = e; same = refl }
 
-  module _ {whole : Res (List A)} {list : L} {i : ℕ} (g : Going whole list i) where
+  module _ {whole : Res (List A)} {list : L} {s : S} {i : ℕ} (g : Going whole list s i) where
     -- no such word: the list is the answer
     pub at-last : isWord t word i ≡ false → whole ≡ ok (g .entries) i
     unfolding repeated
     at-last e = g .same ∙ by (g .left)
       where
-        by : (n : ℕ) → onto (g .entries) (repeated t word number form n i) ≡ ok (g .entries) i
+        by : (n : ℕ) → onto (g .entries) (repeated t word number form after s n i) ≡ ok (g .entries) i
         by zero = rw (e) (ap (λ zs. ok zs i) (append-nil (g .entries)))
         by (suc n) = rw (e) (ap (λ zs. ok zs i) (append-nil (g .entries)))
 
@@ -70,26 +70,26 @@ module _ {A L : Type 0} (of : List A → L) (with : L → A → L) (count : L �
     unfolding repeated
     too-many e f = g .same ∙ by (g .left) (let r = g .room in let c = full in omega arith)
       where
-        by : (n : ℕ) → n ≡ 0 → onto (g .entries) (repeated t word number form n i) ≡ refuse number i
+        by : (n : ℕ) → n ≡ 0 → onto (g .entries) (repeated t word number form after s n i) ≡ refuse number i
         by zero z = rw (e)
         by (suc n) z = absurd (omega arith)
 
     module _ (e : isWord t word i ≡ true) (f : count list ≡ 4 → ⊥) where
       -- a form behind the word
       turned : whole ≡
-          onto (g .entries) (bind (form (i + 1)) (λ x k. bind (repeated t word number form (pred (g .left)) k) (λ ys j. ok (x ∷ ys) j)))
+          onto (g .entries) (bind (form s (i + 1)) (λ x k. bind (repeated t word number form after (after s x) (pred (g .left)) k) (λ ys j. ok (x ∷ ys) j)))
       unfolding repeated
       turned = g .same ∙ by (g .left) (λ z. f (let r = g .room in let c = full in omega arith))
         where
-          by : (n : ℕ) → (n ≡ 0 → ⊥) → onto (g .entries) (repeated t word number form n i) ≡
-              onto (g .entries) (bind (form (i + 1)) (λ x k. bind (repeated t word number form (pred n) k) (λ ys j. ok (x ∷ ys) j)))
+          by : (n : ℕ) → (n ≡ 0 → ⊥) → onto (g .entries) (repeated t word number form after s n i) ≡
+              onto (g .entries) (bind (form s (i + 1)) (λ x k. bind (repeated t word number form after (after s x) (pred n) k) (λ ys j. ok (x ∷ ys) j)))
           by zero z = absurd (z refl)
           by (suc n) z = rw (e)
 
-      pub one-refused : {r : Refusal} → form (i + 1) ≡ no r → whole ≡ no r
+      pub one-refused : {r : Refusal} → form s (i + 1) ≡ no r → whole ≡ no r
       one-refused h = turned ∙ rw (h)
 
-      pub one-more : {x : A} {k : ℕ} {more : L} → form (i + 1) ≡ ok x k → more ≡ with list x → Going whole more k
+      pub one-more : {x : A} {k : ℕ} {more : L} → form s (i + 1) ≡ ok x k → more ≡ with list x → Going whole more (after s x) k
       one-more {x} {k} h m =
           record {
             entries = g .entries ++ (x ∷ []);
@@ -101,7 +101,7 @@ module _ {A L : Type 0} (of : List A → L) (with : L → A → L) (count : L �
                 let one = pred-is (g .left) in
                 omega arith;
             stored = m ∙ ap (λ l. with l x) (g .stored) ∙ puts (g .entries) x (let r = g .room in let c = full in omega arith);
-            same = turned ∙ rw (h) (onto-more (g .entries) x (repeated t word number form (pred (g .left)) k));
+            same = turned ∙ rw (h) (onto-more (g .entries) x (repeated t word number form after (after s x) (pred (g .left)) k));
           }
 
 -- what the test for an optional token shows

@@ -42,7 +42,7 @@ use Rattle.language.specs.Section.{Lists, ruleAt}
 use Rattle.tokens.specs.Ended.{Ended, recordWords, tokenLine, tokenColumn}
 use Rattle.tokens.specs.Placed.{All-in-word}
 use Rattle.model.specs.Lists.{triggersOf, conditionsOf, acceptedWith, refusedWith}
-use Rattle.language.specs.Read.{parsed, ruleOf, lexedFrom, byPrimary, byText, bySheet, Outcome, readOf}
+use Rattle.language.specs.Read.{parsed, topicsWith, ruleOf, lexedFrom, byPrimary, byText, bySheet, Outcome, readOf}
 use Rattle.language.specs.Demand.{Exact}
 use Rattle.tokens.specs.Buffer.{Holds, frontOf}
 use Rattle.model.specs.declared.Triggers.{Triggers}
@@ -82,24 +82,24 @@ abbrev pub Asked : List ℕ → List ℕ → Type 0
 Asked text words = (length text ≤ mostBytes) × (leastWords ≤ length words)
 
 -- what is answered once the text is lexed into these words
-abbrev lexedBy : List ℕ → View → List ℕ → Lexed → Answer
-lexedBy text view words (Tokens count line column) =
-    answered (take (count * recordSize) words) line column (ruleOf text (take (count * recordSize) words) view)
-lexedBy text view words (Refused number line column) = refusedWith number line column 0
+abbrev lexedBy : List ℕ → View → List ℕ → List ℕ → Lexed → Answer
+lexedBy text view lent words (Tokens count line column) =
+    answered (take (count * recordSize) words) line column (ruleOf text (take (count * recordSize) words) view lent)
+lexedBy text view lent words (Refused number line column) = refusedWith number line column 0
 
 -- a lexing that was refused answers so, too
-refused-same : (text : List ℕ) (view : View) (whole l : Lexing) (number line column : ℕ) → Refused-at number line column l →
-    refusedWith number line column 0 ≡ lexedFrom text view whole l
+refused-same : (text : List ℕ) (view : View) (lent : List ℕ) (whole l : Lexing) (number line column : ℕ) → Refused-at number line column l →
+    refusedWith number line column 0 ≡ lexedFrom text view lent whole l
 unfolding lexedFrom
-refused-same text view whole (ended p) number line column r = absurd r
-refused-same text view whole (refused n p) number line column r = rw (r .0, r .1, r .2)
-refused-same text view whole (token r l) number line column h = refused-same text view whole l number line column h
+refused-same text view lent whole (ended p) number line column r = absurd r
+refused-same text view lent whole (refused n p) number line column r = rw (r .0, r .1, r .2)
+refused-same text view lent whole (token r l) number line column h = refused-same text view lent whole l number line column h
 
 -- lexed into a buffer with room, and parsed from it
-module _ (text : List ℕ) (view : View) (words : List ℕ) (short : length text ≤ mostBytes) (room : leastWords ≤ length words) where
+module _ (text : List ℕ) (view : View) (lent words : List ℕ) (short : length text ≤ mostBytes) (room : leastWords ≤ length words) where
   by-answer : (x : Lexed) → answerFrom 0 (lexText text) ≡ x →
-      lexedBy text view (writtenFrom 0 words (lexText text)) x ≡ lexedFrom text view (lexText text) (lexText text)
-  by-answer (Refused number line column) e = refused-same text view (lexText text) (lexText text) number line column (answer-refused 0 (lexText text) e)
+      lexedBy text view lent (writtenFrom 0 words (lexText text)) x ≡ lexedFrom text view lent (lexText text) (lexText text)
+  by-answer (Refused number line column) e = refused-same text view lent (lexText text) (lexText text) number line column (answer-refused 0 (lexText text) e)
   by-answer (Tokens count line column) e =
       let a = answer-ended 0 (lexText text) e in
       let n = a .0 in
@@ -107,24 +107,24 @@ module _ (text : List ℕ) (view : View) (words : List ℕ) (short : length text
       let fits : n * recordSize ≤ length words = let f = few text (a .1) in omega arith in
       let records : take (count * recordSize) (writtenFrom 0 words (lexText text)) ≡ recordWords (lexText text) =
       rw (← same) (buffer-records words (a .1) fits) in
-      rw (records, a .3, a .4) (answered-parsed (all-in-word text short) (a .1) (ruleOf text (recordWords (lexText text)) view)) ∙
-      sym (lexed-complete text view (lexText text) (a .1))
+      rw (records, a .3, a .4) (answered-parsed (all-in-word text short) (a .1) (ruleOf text (recordWords (lexText text)) view lent)) ∙
+      sym (lexed-complete text view lent (lexText text) (a .1))
 
-  answer-by : (x : Checked) → lexedBy text view (wordsBy text words x) (answerBy text x) ≡ byText text view words true x .answer
+  answer-by : (x : Checked) → lexedBy text view lent (wordsBy text words x) (answerBy text x) ≡ byText text view lent words true x .answer
   unfolding answerBy wordsBy byText byPrimary
   answer-by WellFormed = by-answer (answerFrom 0 (lexText text)) refl
   answer-by (IllFormed line column) = refl
 
-  pub lexed-same : lexedBy text view (lexWords text words) (lexAnswer text words) ≡ byText text view words true (checkOf text) .answer
+  pub lexed-same : lexedBy text view lent (lexWords text words) (lexAnswer text words) ≡ byText text view lent words true (checkOf text) .answer
   unfolding lexAnswer lexWords
   lexed-same = rw (le-ltb mostBytes (length text) short, le-ltb (length words) leastWords room) (answer-by (checkOf text))
 
-  words-by : (x : Checked) → wordsBy text words x ≡ byText text view words true x .buffer
+  words-by : (x : Checked) → wordsBy text words x ≡ byText text view lent words true x .buffer
   unfolding wordsBy byText byPrimary
   words-by WellFormed = refl
   words-by (IllFormed line column) = refl
 
-  pub words-same : lexWords text words ≡ byText text view words true (checkOf text) .buffer
+  pub words-same : lexWords text words ≡ byText text view lent words true (checkOf text) .buffer
   unfolding lexWords
   words-same = rw (le-ltb mostBytes (length text) short, le-ltb (length words) leastWords room) (words-by (checkOf text))
 
@@ -190,28 +190,28 @@ module _ (text words : List ℕ) {x : Lexed} (answer : x ≡ lexAnswer text word
     pub records-taken : {buffer : List ℕ} → buffer ≡ lexWords text words → count * recordSize ≡ length (take (count * recordSize) buffer)
     records-taken {buffer} e = sym (length-take-le (count * recordSize) buffer (records-in e))
 
-    by-tokens : (view : View) {buffer : List ℕ} {r : Answer} → buffer ≡ lexWords text words →
-        r ≡ answered (take (count * recordSize) buffer) line column (ruleOf text (take (count * recordSize) buffer) view) →
-        r ≡ lexedBy text view (lexWords text words) (lexAnswer text words)
-    by-tokens view e h = rw (← answer, was, ← e) h
+    by-tokens : (view : View) (lent : List ℕ) {buffer : List ℕ} {r : Answer} → buffer ≡ lexWords text words →
+        r ≡ answered (take (count * recordSize) buffer) line column (ruleOf text (take (count * recordSize) buffer) view lent) →
+        r ≡ lexedBy text view lent (lexWords text words) (lexAnswer text words)
+    by-tokens view lent e h = rw (← answer, was, ← e) h
 
-    pub lexed-yes : (view : View) {buffer : List ℕ} {r : Answer} → Asked text words → buffer ≡ lexWords text words →
-        r ≡ answered (take (count * recordSize) buffer) line column (ruleOf text (take (count * recordSize) buffer) view) →
-        r ≡ byText text view words true (checkOf text) .answer
-    lexed-yes view q e h = by-tokens view e h ∙ lexed-same text view words (q .0) (q .1)
+    pub lexed-yes : (view : View) (lent : List ℕ) {buffer : List ℕ} {r : Answer} → Asked text words → buffer ≡ lexWords text words →
+        r ≡ answered (take (count * recordSize) buffer) line column (ruleOf text (take (count * recordSize) buffer) view lent) →
+        r ≡ byText text view lent words true (checkOf text) .answer
+    lexed-yes view lent q e h = by-tokens view lent e h ∙ lexed-same text view lent words (q .0) (q .1)
 
-  by-refusal : (view : View) {number line column : ℕ} {r : Answer} → x ≡ Refused number line column →
-      r ≡ refusedWith number line column 0 → r ≡ lexedBy text view (lexWords text words) (lexAnswer text words)
-  by-refusal view was h = rw (← answer, was) h
+  by-refusal : (view : View) (lent : List ℕ) {number line column : ℕ} {r : Answer} → x ≡ Refused number line column →
+      r ≡ refusedWith number line column 0 → r ≡ lexedBy text view lent (lexWords text words) (lexAnswer text words)
+  by-refusal view lent was h = rw (← answer, was) h
 
-  pub lexed-no : (view : View) {number line column : ℕ} {r : Answer} → Asked text words → x ≡ Refused number line column →
-      r ≡ refusedWith number line column 0 → r ≡ byText text view words true (checkOf text) .answer
-  lexed-no view q was h = by-refusal view was h ∙ lexed-same text view words (q .0) (q .1)
+  pub lexed-no : (view : View) (lent : List ℕ) {number line column : ℕ} {r : Answer} → Asked text words → x ≡ Refused number line column →
+      r ≡ refusedWith number line column 0 → r ≡ byText text view lent words true (checkOf text) .answer
+  lexed-no view lent q was h = by-refusal view lent was h ∙ lexed-same text view lent words (q .0) (q .1)
 
 -- the words behind the lexer
-pub lexed-words : (text : List ℕ) (view : View) (words : List ℕ) {buffer : List ℕ} → Asked text words → buffer ≡ lexWords text words →
-    buffer ≡ byText text view words true (checkOf text) .buffer
-lexed-words text view words q e = e ∙ words-same text view words (q .0) (q .1)
+pub lexed-words : (text : List ℕ) (view : View) (lent words : List ℕ) {buffer : List ℕ} → Asked text words → buffer ≡ lexWords text words →
+    buffer ≡ byText text view lent words true (checkOf text) .buffer
+lexed-words text view lent words q e = e ∙ words-same text view lent words (q .0) (q .1)
 
 -- a refusal, and its place
 pub refused-made : (number line column detail : ℕ) {triggers : Triggers} {conditions : Conditions} → triggers ≡ triggersOf [] →
@@ -232,9 +232,9 @@ module _ (words : List ℕ) (line column : ℕ) (refusal : Refusal) {count : ℕ
   placed-past h e = lt-no (refusal .token) (capacity words) _ _ (rw (← counted) h) e
 
 -- the parser's answer on the records
-module _ (settings : Settings) (text words sheet : List ℕ) (line column : ℕ) {rule : Rule}
-    (read : rule ≡ toRule (ruleAt (tokens text words) (viewOf settings sheet) (rangeOf words) (capacity words))) where
-  rule-is : rule ≡ toRule (ruleOf text words (viewOf settings sheet))
+module _ (settings : Settings) (text words sheet lent : List ℕ) (line column : ℕ) {rule : Rule}
+    (read : rule ≡ toRule (ruleAt (tokens text words) (viewOf settings sheet) (rangeOf words) (topicsWith text lent) (capacity words))) where
+  rule-is : rule ≡ toRule (ruleOf text words (viewOf settings sheet) lent)
   unfolding ruleOf
   rule-is = read
 
@@ -255,35 +255,35 @@ module _ (settings : Settings) (text words sheet : List ℕ) (line column : ℕ)
 
   pub parsed-yes : rule .accepted ≡ true →
       record { number = 0; line = 0; column = 0; detail = 0; triggers = rule .triggers; conditions = rule .conditions } ≡
-      answered words line column (ruleOf text words (viewOf settings sheet))
-  parsed-yes h = yes-by (ruleOf text words (viewOf settings sheet)) rule-is h
+      answered words line column (ruleOf text words (viewOf settings sheet) lent)
+  parsed-yes h = yes-by (ruleOf text words (viewOf settings sheet) lent) rule-is h
 
   pub parsed-no : {a : Answer} → rule .accepted ≡ false → a ≡ placed words line column (rule .refusal) →
-      a ≡ answered words line column (ruleOf text words (viewOf settings sheet))
-  parsed-no h w = no-by (ruleOf text words (viewOf settings sheet)) rule-is h w
+      a ≡ answered words line column (ruleOf text words (viewOf settings sheet) lent)
+  parsed-no h w = no-by (ruleOf text words (viewOf settings sheet) lent) rule-is h w
 
 -- a call whose primary adapter is not its party's
 pub not-own-by : (x : Checked) {r v : Checked} {a : Answer} → r ≡ x → r ≡ v → a ≡ notOwn v → a ≡ notOwn x
 not-own-by x e m h = rw (← e, m) h
 
-not-own-answer : (text : List ℕ) (view : View) (words : List ℕ) (c : Checked) → notOwn c ≡ byText text view words false c .answer
+not-own-answer : (text : List ℕ) (view : View) (lent words : List ℕ) (c : Checked) → notOwn c ≡ byText text view lent words false c .answer
 unfolding notOwn byText byPrimary
-not-own-answer text view words WellFormed = refl
-not-own-answer text view words (IllFormed line column) = refl
+not-own-answer text view lent words WellFormed = refl
+not-own-answer text view lent words (IllFormed line column) = refl
 
-not-own-buffer : (text : List ℕ) (view : View) (words : List ℕ) (c : Checked) → words ≡ byText text view words false c .buffer
+not-own-buffer : (text : List ℕ) (view : View) (lent words : List ℕ) (c : Checked) → words ≡ byText text view lent words false c .buffer
 unfolding byText byPrimary
-not-own-buffer text view words WellFormed = refl
-not-own-buffer text view words (IllFormed line column) = refl
+not-own-buffer text view lent words WellFormed = refl
+not-own-buffer text view lent words (IllFormed line column) = refl
 
 -- a byte is an adapter
 in-byte : {n : ℕ} → Fits w8 n → n ≤ lastAdapter
 in-byte h = let f = h .fits in omega arith
 
 -- question 3's answer, taken apart: of a sheet that is well formed it says which adapters are the party's, and which are listed
-module _ (call : Call) (text sheet words : List ℕ) {survey : Survey} (checked : survey ≡ surveyOf (call .party) sheet) where
+module _ (call : Call) (text sheet lent words : List ℕ) {survey : Survey} (checked : survey ≡ surveyOf (call .party) sheet) where
   abbrev outcome : Outcome
-  outcome = bySheet text (seen call sheet) words (ownPrimary call sheet) (sheetCheck sheet)
+  outcome = bySheet text (seen call sheet) lent words (ownPrimary call sheet) (sheetCheck sheet)
 
   module _ {n : ℕ} (bad : survey .verdict ≡ BadLine n) where
     bad-same : record { answer = refusedWith 3 n 0 0; buffer = words } ≡ outcome
@@ -304,7 +304,7 @@ module _ (call : Call) (text sheet words : List ℕ) {survey : Survey} (checked 
     unfolding ownPrimary
     own-is = has-own ∙ ap (λ (set : Adapters). has set (call .primary)) (kept .1) ∙ has-packed _ _ (in-byte byte)
 
-    outcome-is : byText text (seen call sheet) words own (checkOf text) ≡ outcome
+    outcome-is : byText text (seen call sheet) lent words own (checkOf text) ≡ outcome
     unfolding bySheet
     outcome-is = rw (kept .0, own-is)
 
@@ -314,7 +314,7 @@ module _ (call : Call) (text sheet words : List ℕ) {survey : Survey} (checked 
 
     abbrev own-outcome : Outcome
     own-outcome =
-        byText text (viewOf (record { primary = call .primary; habit = call .habit; own = survey .said .own; listed = survey .said .listed }) sheet) words true (checkOf text)
+        byText text (viewOf (record { primary = call .primary; habit = call .habit; own = survey .said .own; listed = survey .said .listed }) sheet) lent words true (checkOf text)
 
     own-same : own ≡ true → own-outcome ≡ outcome
     own-same h = rw view-is (rw h at outcome-is)
@@ -325,53 +325,53 @@ module _ (call : Call) (text sheet words : List ℕ) {survey : Survey} (checked 
     pub own-buffer : {b : List ℕ} → own ≡ true → b ≡ own-outcome .buffer → b ≡ outcome .buffer
     own-buffer h e = e ∙ ap (λ (o : Outcome). o .buffer) (own-same h)
 
-    other-same : own ≡ false → byText text (seen call sheet) words false (checkOf text) ≡ outcome
+    other-same : own ≡ false → byText text (seen call sheet) lent words false (checkOf text) ≡ outcome
     other-same h = rw h at outcome-is
 
     pub other-answer : {a : Answer} → own ≡ false → a ≡ notOwn (checkOf text) → a ≡ outcome .answer
-    other-answer h e = e ∙ not-own-answer text (seen call sheet) words (checkOf text) ∙ ap (λ (o : Outcome). o .answer) (other-same h)
+    other-answer h e = e ∙ not-own-answer text (seen call sheet) lent words (checkOf text) ∙ ap (λ (o : Outcome). o .answer) (other-same h)
 
     pub other-buffer : own ≡ false → words ≡ outcome .buffer
-    other-buffer h = not-own-buffer text (seen call sheet) words (checkOf text) ∙ ap (λ (o : Outcome). o .buffer) (other-same h)
+    other-buffer h = not-own-buffer text (seen call sheet) lent words (checkOf text) ∙ ap (λ (o : Outcome). o .buffer) (other-same h)
 
 -- questions 1 and 2, and what lies behind them
-module _ (call : Call) (text sheet words : List ℕ) where
-  long-same : mostBytes < length text → record { answer = refusedWith 1 0 0 0; buffer = words } ≡ readOf call text sheet words
+module _ (call : Call) (text sheet lent words : List ℕ) where
+  long-same : mostBytes < length text → record { answer = refusedWith 1 0 0 0; buffer = words } ≡ readOf call text sheet lent words
   unfolding readOf
   long-same h = rw (lt-ltb mostBytes (length text) h)
 
-  small-same : length text ≤ mostBytes → length words < leastWords → record { answer = refusedWith 2 0 0 0; buffer = words } ≡ readOf call text sheet words
+  small-same : length text ≤ mostBytes → length words < leastWords → record { answer = refusedWith 2 0 0 0; buffer = words } ≡ readOf call text sheet lent words
   unfolding readOf
   small-same s h = rw (le-ltb mostBytes (length text) s, lt-ltb (length words) leastWords h)
 
-  asked-same : length text ≤ mostBytes → leastWords ≤ length words → bySheet text (seen call sheet) words (ownPrimary call sheet) (sheetCheck sheet) ≡ readOf call text sheet words
+  asked-same : length text ≤ mostBytes → leastWords ≤ length words → bySheet text (seen call sheet) lent words (ownPrimary call sheet) (sheetCheck sheet) ≡ readOf call text sheet lent words
   unfolding readOf
   asked-same s h = rw (le-ltb mostBytes (length text) s, le-ltb (length words) leastWords h)
 
   module _ {a : Answer} where
-    pub long-answer : mostBytes < length text → a ≡ refusedWith 1 0 0 0 → a ≡ readOf call text sheet words .answer
+    pub long-answer : mostBytes < length text → a ≡ refusedWith 1 0 0 0 → a ≡ readOf call text sheet lent words .answer
     long-answer h e = e ∙ ap (λ (o : Outcome). o .answer) (long-same h)
 
-    pub small-answer : length text ≤ mostBytes → length words < leastWords → a ≡ refusedWith 2 0 0 0 → a ≡ readOf call text sheet words .answer
+    pub small-answer : length text ≤ mostBytes → length words < leastWords → a ≡ refusedWith 2 0 0 0 → a ≡ readOf call text sheet lent words .answer
     small-answer s h e = e ∙ ap (λ (o : Outcome). o .answer) (small-same s h)
 
-    pub asked-answer : length text ≤ mostBytes → leastWords ≤ length words → a ≡ bySheet text (seen call sheet) words (ownPrimary call sheet) (sheetCheck sheet) .answer →
-        a ≡ readOf call text sheet words .answer
+    pub asked-answer : length text ≤ mostBytes → leastWords ≤ length words → a ≡ bySheet text (seen call sheet) lent words (ownPrimary call sheet) (sheetCheck sheet) .answer →
+        a ≡ readOf call text sheet lent words .answer
     asked-answer s h e = e ∙ ap (λ (o : Outcome). o .answer) (asked-same s h)
 
-  pub long-buffer : mostBytes < length text → words ≡ readOf call text sheet words .buffer
+  pub long-buffer : mostBytes < length text → words ≡ readOf call text sheet lent words .buffer
   long-buffer h = ap (λ (o : Outcome). o .buffer) (long-same h)
 
-  pub small-buffer : length text ≤ mostBytes → length words < leastWords → words ≡ readOf call text sheet words .buffer
+  pub small-buffer : length text ≤ mostBytes → length words < leastWords → words ≡ readOf call text sheet lent words .buffer
   small-buffer s h = ap (λ (o : Outcome). o .buffer) (small-same s h)
 
-  pub asked-buffer : {b : List ℕ} → length text ≤ mostBytes → leastWords ≤ length words → b ≡ bySheet text (seen call sheet) words (ownPrimary call sheet) (sheetCheck sheet) .buffer →
-      b ≡ readOf call text sheet words .buffer
+  pub asked-buffer : {b : List ℕ} → length text ≤ mostBytes → leastWords ≤ length words → b ≡ bySheet text (seen call sheet) lent words (ownPrimary call sheet) (sheetCheck sheet) .buffer →
+      b ≡ readOf call text sheet lent words .buffer
   asked-buffer s h e = e ∙ ap (λ (o : Outcome). o .buffer) (asked-same s h)
 
 -- all that the call promises, by its answer and the words at exit
-pub promised : (call : Call) → Fits w8 (call .primary) → (text sheet words : List ℕ) {a : Answer} {exit : List ℕ} → a ≡ readOf call text sheet words .answer → exit ≡ readOf call text sheet words .buffer →
-    ((a ≡ readOf call text sheet words .answer) × (exit ≡ readOf call text sheet words .buffer))
-    × (Holds (frontOf (a .number) text) words exit × Exact call text sheet (length words) a)
-promised call byte text sheet words e f =
-    ((e, f), (read-holds call text sheet words e f, subst (λ (x : Answer). Exact call text sheet (length words) x) (sym e) (exact call (in-byte byte) text sheet words)))
+pub promised : (call : Call) → Fits w8 (call .primary) → (text sheet lent words : List ℕ) {a : Answer} {exit : List ℕ} → a ≡ readOf call text sheet lent words .answer → exit ≡ readOf call text sheet lent words .buffer →
+    ((a ≡ readOf call text sheet lent words .answer) × (exit ≡ readOf call text sheet lent words .buffer))
+    × (Holds (frontOf (a .number) text) words exit × Exact call text sheet lent (length words) a)
+promised call byte text sheet lent words e f =
+    ((e, f), (read-holds call text sheet lent words e f, subst (λ (x : Answer). Exact call text sheet lent (length words) x) (sym e) (exact call (in-byte byte) text sheet lent words)))

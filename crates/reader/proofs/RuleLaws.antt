@@ -13,7 +13,7 @@ use Rattle.tokens.specs.declared.cursor.Cursor.{Cursor}
 use Rattle.tokens.specs.declared.cursor.Refusal.{Refusal}
 use Rattle.tokens.proofs.Chain.{perhaps-yes, perhaps-no}
 use Rattle.sheet.specs.View.{View}
-use Rattle.language.specs.Section.{ifSection, whenSection, Lists, atEnd, ruleAt}
+use Rattle.language.specs.Section.{Topics, ifSection, whenSection, Lists, atEnd, ruleAt}
 use Rattle.model.specs.Lists.{triggersOf, conditionsOf}
 use Rattle.sections.proofs.AnswerChain.{refused, then-condition, stop-condition}
 use Rattle.model.specs.declared.Name.{Name}
@@ -103,8 +103,8 @@ rule-behind t xs (ok ys i) = by (eqb (t i .kind) 0)
     by false = refl
 
 -- the triggers, taken apart
-module _ (t : ℕ → Tok) (view : View) (range : ℕ → Name) (fuel : ℕ) {first : Cursor} (begins : first ≡ at 0) {w : Whens}
-    (read : w ≡ toWhens (whenSection t view range fuel (first .index))) where
+module _ (t : ℕ → Tok) (view : View) (range : ℕ → Name) (topics : Topics) (fuel : ℕ) {first : Cursor} (begins : first ≡ at 0) {w : Whens}
+    (read : w ≡ toWhens (whenSection t view range topics fuel (first .index))) where
   by-triggers : (m : Res (List Trigger)) {a : Rule} → w ≡ toWhens m → w .accepted ≡ true →
       a ≡ ruleWith t (w .list) (ifSection t view range fuel (w .next .index)) →
       a ≡ toRule (bind m (λ xs i. bind (ifSection t view range fuel i) (λ ys j. atEnd t xs ys j)))
@@ -120,17 +120,17 @@ module _ (t : ℕ → Tok) (view : View) (range : ℕ → Name) (fuel : ℕ) {fi
   by-refusal (ok xs i) f e h r = absurd (one-answer (ap (λ (w : Whens). w .accepted) e) h)
   by-refusal (no x) f e h r = r ∙ ap (λ (w : Whens). toRule (no (w .refusal))) e
 
-  at-first : w ≡ toWhens (whenSection t view range fuel 0)
-  at-first = read ∙ ap (λ (c : Cursor). toWhens (whenSection t view range fuel (c .index))) begins
+  at-first : w ≡ toWhens (whenSection t view range topics fuel 0)
+  at-first = read ∙ ap (λ (c : Cursor). toWhens (whenSection t view range topics fuel (c .index))) begins
 
   pub rule-yes : {a : Rule} → w .accepted ≡ true → a ≡ ruleWith t (w .list) (ifSection t view range fuel (w .next .index)) →
-      a ≡ toRule (ruleAt t view range fuel)
+      a ≡ toRule (ruleAt t view range topics fuel)
   unfolding ruleAt
-  rule-yes h r = by-triggers (whenSection t view range fuel 0) at-first h r
+  rule-yes h r = by-triggers (whenSection t view range topics fuel 0) at-first h r
 
-  pub rule-stop : {a : Rule} → w .accepted ≡ false → a ≡ toRule (no (w .refusal)) → a ≡ toRule (ruleAt t view range fuel)
+  pub rule-stop : {a : Rule} → w .accepted ≡ false → a ≡ toRule (no (w .refusal)) → a ≡ toRule (ruleAt t view range topics fuel)
   unfolding ruleAt
-  rule-stop h r = by-refusal (whenSection t view range fuel 0) _ at-first h r
+  rule-stop h r = by-refusal (whenSection t view range topics fuel 0) _ at-first h r
 
 -- closes what is left of a section
 pub ruleset sections = (told-yes, told-no, whens-same, ifs-same, ifs-none, perhaps-yes, perhaps-no, then-condition, stop-condition, refused)

@@ -2,7 +2,7 @@
 use Prim.Native.Nat.{ℕ, _+_, _-_, _<_, _≤_}
 use native.Mathlib.Omega.{arith}
 use mathlib.Core.Path.{_≡_, refl, sym, ap, _∙_}
-use mathlib.Core.Bool.{true}
+use mathlib.Core.Bool.{Bool, true, false}
 use mathlib.Core.List.{List, [], _∷_, _++_}
 use lib.ListN.{length, length-append, set}
 use Rattle.text.specs.Literal.{ascii}
@@ -14,11 +14,18 @@ use Rattle.tokens.specs.declared.cursor.Refusal.{Refusal}
 use Rattle.tokens.specs.declared.cursor.Accepted.{Accepted}
 use Rattle.tokens.specs.declared.cursor.Accepted.the-variants.{Yes, Left}
 use Rattle.sheet.specs.View.{View}
-use Rattle.language.specs.Trigger.{triggerAt}
+use Rattle.topics.specs.Topics.{mostTopics, fits}
+use Rattle.topics.specs.Ranges.{noRanges, withTopic, topicBy, nameIn, topicsIn}
+use Rattle.topics.specs.declared.ranges.Ranges.{Ranges}
+use Rattle.topics.specs.declared.ranges.Topic.{Topic}
+use Rattle.topics.proofs.RangeLaws.{Stand, none-stand, topic-stands, topic-few}
+use Rattle.language.specs.Topics.{topicName, topicOf}
+use Rattle.language.specs.Read.{topicsWith}
 use Rattle.sections.specs.Answers.{toTrigger}
 use Rattle.language.specs.Condition.{conditionAt}
 use Rattle.sections.specs.Answers.{toCondition}
-use Rattle.language.specs.Section.{repeated}
+use Rattle.language.specs.Section.{Topics, triggerNamed, repeated}
+use Rattle.language.specs.Trigger.{triggerAt}
 use Rattle.model.specs.Lists.{padded, triggersOf, conditionsOf}
 use Rattle.sections.proofs.AnswerChain.{is-trigger, is-condition}
 use Rattle.model.specs.declared.Name.{Name}
@@ -89,30 +96,68 @@ condition-set : (list : Conditions) (y : Condition) → list .count < 4 →
 unfolding withCondition
 condition-set list y h = lt-yes (list .count) 4 _ _ h refl
 
-module _ (t : ℕ → Tok) (view : View) (range : ℕ → Name) (fuel : ℕ) where
-  abbrev pub When-going : Res (List Trigger) → Triggers → ℕ → Type 0
-  When-going =
-      Going triggersOf withTrigger (λ (l : Triggers). l .count) trigger-counts trigger-puts t (ascii "when") 37 (triggerAt t view range fuel)
+-- a trigger behind others: what was read, and whether its topic fits
+module _ (t : ℕ → Tok) (view : View) (range : ℕ → Name) (topics : Topics) (fuel : ℕ) (named : List (List ℕ)) (i : ℕ) {one : TriggerAnswer}
+    (read : one ≡ toTrigger (triggerAt t view range fuel i)) where
+  pub named-no : {refusal : Refusal} → one ≡ TriggerAnswer.No refusal →
+      TriggerAnswer.No refusal ≡ toTrigger (triggerNamed t view range topics fuel named i)
+  unfolding triggerNamed toTrigger
+  named-no w = rw (is-trigger (triggerAt t view range fuel i) read w)
 
-  abbrev pub And-going : Res (List Condition) → Conditions → ℕ → Type 0
-  And-going =
-      Going conditionsOf withCondition (λ (l : Conditions). l .count) condition-counts condition-puts t (ascii "and") 39
-      (conditionAt t view range fuel)
+  module _ {x : Trigger} {behind : Cursor} (w : one ≡ TriggerAnswer.Got x behind) {topic : Topic} (its : topic ≡ topicName x) {fit : Bool}
+      (judged : fit ≡ fits (topics .lent) named (topicBy (topics .written) topic)) where
+    fit-is : fits (topics .lent) named (topicOf (topics .written) x) ≡ fit
+    unfolding topicOf
+    fit-is = ap (λ (y : Topic). fits (topics .lent) named (topicBy (topics .written) y)) (sym its) ∙ sym judged
 
-  pub whens-begin : (i : ℕ) {list : Triggers} → list ≡ triggersOf [] → When-going (repeated t (ascii "when") 37 (triggerAt t view range fuel) 4 i) list i
-  whens-begin i e =
-      begin triggersOf withTrigger (λ (l : Triggers). l .count) trigger-counts trigger-puts t (ascii "when") 37 (triggerAt t view range fuel) i e
+    pub named-yes : fit ≡ true → TriggerAnswer.Got x behind ≡ toTrigger (triggerNamed t view range topics fuel named i)
+    unfolding triggerNamed toTrigger
+    named-yes h = rw (is-trigger (triggerAt t view range fuel i) read w, fit-is, h)
 
-  whens-four : {whole : Res (List Trigger)} {list : Triggers} {i : ℕ} → When-going whole list i → 4 ≤ list .count → list .count ≡ 4
-  whens-four {list = list} g f = trigger-full (g .entries) list (g .stored) (let r = g .room in omega arith) f
+    pub named-many : {r : Refusal} → fit ≡ false → r ≡ record { number = 66; token = i; detail = 0 } →
+        TriggerAnswer.No r ≡ toTrigger (triggerNamed t view range topics fuel named i)
+    unfolding triggerNamed toTrigger
+    named-many h e = rw (is-trigger (triggerAt t view range fuel i) read w, fit-is, h, e)
 
-  module _ {whole : Res (List Trigger)} {list : Triggers} {p : Cursor} {a : Accepted} (g : When-going whole list (p .index))
+module _ (text : List ℕ) (t : ℕ → Tok) (view : View) (range : ℕ → Name) (lent : List ℕ) (fuel : ℕ) where
+  abbrev form : List (List ℕ) → ℕ → Res Trigger
+  form = triggerNamed t view range (topicsWith text lent) fuel
+
+  abbrev after : List (List ℕ) → Trigger → List (List ℕ)
+  after named x = named ++ topicOf (nameIn text) x
+
+  abbrev pub whole-of : ℕ → Res (List Trigger)
+  whole-of i = repeated t (ascii "when") 37 form after [] 4 i
+
+  abbrev When-going : Res (List Trigger) → Triggers → List (List ℕ) → ℕ → Type 0
+  When-going = Going triggersOf withTrigger (λ (l : Triggers). l .count) trigger-counts trigger-puts t (ascii "when") 37 form after
+
+  -- the ranges hold the topics that the triggers so far name: not more than there are triggers
+  pub record Whens-loop (whole : Res (List Trigger)) (list : Triggers) (named : Ranges) (i : ℕ) : Type 0 where
+    pub topics : List (List ℕ)
+    pub stand : Stand text named topics
+    pub few : length topics ≤ list .count
+    pub going : When-going whole list topics i
+
+  pub whens-begin : (i : ℕ) {list : Triggers} {named : Ranges} → list ≡ triggersOf [] → named ≡ noRanges → Whens-loop (whole-of i) list named i
+  whens-begin i e n =
+      record {
+        topics = [];
+        stand = rw n (none-stand text);
+        few = omega arith;
+        going = begin triggersOf withTrigger (λ (l : Triggers). l .count) trigger-counts trigger-puts t (ascii "when") 37 form after [] i e;
+      }
+
+  whens-four : {whole : Res (List Trigger)} {list : Triggers} {named : Ranges} {i : ℕ} → Whens-loop whole list named i → 4 ≤ list .count → list .count ≡ 4
+  whens-four {list = list} g f = trigger-full (g .going .entries) list (g .going .stored) (let r = g .going .room in omega arith) f
+
+  module _ {whole : Res (List Trigger)} {list : Triggers} {named : Ranges} {p : Cursor} {a : Accepted} (g : Whens-loop whole list named (p .index))
       (asked : a ≡ accepted (isWord t (ascii "when") (p .index)) (p .index)) where
     -- the word is not there: the list is finished
     pub whens-end : {r : Whens} → a ≡ Left → r ≡ record { accepted = true; refusal = unrefused; next = p; list = list } → r ≡ toWhens whole
     unfolding toWhens
     whens-end m e =
-        e ∙ rw (g .stored, at-last triggersOf withTrigger (λ (l : Triggers). l .count) trigger-counts trigger-puts t (ascii "when") 37 (triggerAt t view range fuel) g (was-left _ _ asked m))
+        e ∙ rw (g .going .stored, at-last triggersOf withTrigger (λ (l : Triggers). l .count) trigger-counts trigger-puts t (ascii "when") 37 form after (g .going) (was-left _ _ asked m))
 
     module _ {next : Cursor} (m : a ≡ Yes next) where
       there : (isWord t (ascii "when") (p .index) ≡ true) × (next .index ≡ p .index + 1)
@@ -122,27 +167,47 @@ module _ (t : ℕ → Tok) (view : View) (range : ℕ → Name) (fuel : ℕ) whe
       pub whens-full : {r : Whens} {refusal : Refusal} → 4 ≤ list .count → refusal ≡ record { number = 37; token = p .index; detail = 0 } →
           r ≡ toWhens (no refusal) → r ≡ toWhens whole
       whens-full f h e =
-          e ∙ rw (h, too-many triggersOf withTrigger (λ (l : Triggers). l .count) trigger-counts trigger-puts t (ascii "when") 37 (triggerAt t view range fuel) g (there .0) (whens-four g f))
+          e ∙ rw (h, too-many triggersOf withTrigger (λ (l : Triggers). l .count) trigger-counts trigger-puts t (ascii "when") 37 form after (g .going) (there .0) (whens-four g f))
 
-      module _ (f : list .count < 4) {one : TriggerAnswer} (read : one ≡ toTrigger (triggerAt t view range fuel (next .index))) where
+      module _ (f : list .count < 4) {one : TriggerAnswer} (read : one ≡ toTrigger (form (topicsIn text named) (next .index))) where
+        read-here : one ≡ toTrigger (form (g .topics) (p .index + 1))
+        read-here = rw (← there .1, ← g .stand .are) read
+
         -- the form is refused
         pub whens-stop : {r : Whens} {refusal : Refusal} → one ≡ TriggerAnswer.No refusal → r ≡ toWhens (no refusal) → r ≡ toWhens whole
         whens-stop {refusal = refusal} w e =
             e ∙
-            rw (one-refused triggersOf withTrigger (λ (l : Triggers). l .count) trigger-counts trigger-puts t (ascii "when") 37 (triggerAt t view range fuel) g (there .0) (below-four f) {r = refusal} (rw (← there .1) (is-trigger _ read w)))
+            rw (one-refused triggersOf withTrigger (λ (l : Triggers). l .count) trigger-counts trigger-puts t (ascii "when") 37 form after (g .going) (there .0) (below-four f) {r = refusal} (is-trigger _ read-here w))
 
         -- one more
-        pub whens-on : {x : Trigger} {behind : Cursor} {more : Triggers} → one ≡ TriggerAnswer.Got x behind → more ≡ withTrigger list x → When-going whole more (behind .index)
-        whens-on w e =
-            one-more triggersOf withTrigger (λ (l : Triggers). l .count) trigger-counts trigger-puts t (ascii "when") 37 (triggerAt t view range fuel) g (there .0) (below-four f) (rw (← there .1) (is-trigger _ read w)) e
+        pub whens-put : {x : Trigger} {behind : Cursor} {more : Ranges} → one ≡ TriggerAnswer.Got x behind → more ≡ withTopic named (topicName x) →
+            Whens-loop whole (record { rows = set (list .rows) (list .count) (record { trigger = x }); count = list .count + 1 }) more (behind .index)
+        unfolding topicOf
+        whens-put {x} w n =
+            record {
+              topics = after (g .topics) x;
+              stand = rw n (topic-stands text (g .stand) (let h = g .few in omega arith) (topicName x));
+              few = let h = g .few in let k = topic-few (nameIn text) (g .topics) (topicName x) in omega arith;
+              going =
+                  one-more triggersOf withTrigger (λ (l : Triggers). l .count) trigger-counts trigger-puts t (ascii "when") 37 form after (g .going)
+                  (there .0) (below-four f) (is-trigger _ read-here w) (trigger-set list x f);
+            }
 
-        pub whens-put : {x : Trigger} {behind : Cursor} → one ≡ TriggerAnswer.Got x behind →
-            When-going whole (record { rows = set (list .rows) (list .count) (record { trigger = x }); count = list .count + 1 }) (behind .index)
-        whens-put {x} w = whens-on w (trigger-set list x f)
+module _ (t : ℕ → Tok) (view : View) (range : ℕ → Name) (fuel : ℕ) where
+  abbrev condition-form : Unit {0} → ℕ → Res Condition
+  condition-form s = conditionAt t view range fuel
+
+  abbrev same-state : Unit {0} → Condition → Unit {0}
+  same-state s y = s
+
+  abbrev pub And-going : Res (List Condition) → Conditions → ℕ → Type 0
+  And-going whole list i =
+      Going conditionsOf withCondition (λ (l : Conditions). l .count) condition-counts condition-puts t (ascii "and") 39 condition-form same-state whole
+      list tt i
 
   -- the conditions behind the first x
   abbrev pub behind-first : Condition → ℕ → Res (List Condition)
-  behind-first x i = bind (repeated t (ascii "and") 39 (conditionAt t view range fuel) 3 i) (λ ys j. ok (x ∷ ys) j)
+  behind-first x i = bind (repeated t (ascii "and") 39 condition-form same-state tt 3 i) (λ ys j. ok (x ∷ ys) j)
 
   -- the loop began with a list of one
   pub record And-loop (begun : Conditions) (start : ℕ) (list : Conditions) (i : ℕ) : Type 0 where
@@ -156,8 +221,8 @@ module _ (t : ℕ → Tok) (view : View) (range : ℕ → Name) (fuel : ℕ) whe
         first = x;
         alone = e;
         going =
-            begin-with conditionsOf withCondition (λ (l : Conditions). l .count) condition-counts condition-puts t (ascii "and") 39
-            (conditionAt t view range fuel) x i e;
+            begin-with conditionsOf withCondition (λ (l : Conditions). l .count) condition-counts condition-puts t (ascii "and") 39 condition-form
+            same-state tt x i e;
       }
 
   -- the list that it began with says which condition was first
@@ -187,7 +252,7 @@ module _ (t : ℕ → Tok) (view : View) (range : ℕ → Name) (fuel : ℕ) whe
           ← h,
           ← begun-with x b,
           g .going .stored,
-          at-last conditionsOf withCondition (λ (l : Conditions). l .count) condition-counts condition-puts t (ascii "and") 39 (conditionAt t view range fuel) (g .going) (was-left _ _ asked m),
+          at-last conditionsOf withCondition (λ (l : Conditions). l .count) condition-counts condition-puts t (ascii "and") 39 condition-form same-state (g .going) (was-left _ _ asked m),
         )
 
     module _ {next : Cursor} (m : a ≡ Yes next) where
@@ -204,7 +269,7 @@ module _ (t : ℕ → Tok) (view : View) (range : ℕ → Name) (fuel : ℕ) whe
             h,
             ← w,
             ← begun-with x b,
-            too-many conditionsOf withCondition (λ (l : Conditions). l .count) condition-counts condition-puts t (ascii "and") 39 (conditionAt t view range fuel) (g .going) (and-there .0) (ands-four g f),
+            too-many conditionsOf withCondition (λ (l : Conditions). l .count) condition-counts condition-puts t (ascii "and") 39 condition-form same-state (g .going) (and-there .0) (ands-four g f),
           )
 
       module _ (f : list .count < 4) {one : ConditionAnswer} (read : one ≡ toCondition (conditionAt t view range fuel (next .index))) where
@@ -217,7 +282,7 @@ module _ (t : ℕ → Tok) (view : View) (range : ℕ → Name) (fuel : ℕ) whe
             rw (
               ← h,
               ← begun-with x b,
-              one-refused conditionsOf withCondition (λ (l : Conditions). l .count) condition-counts condition-puts t (ascii "and") 39 (conditionAt t view range fuel) (g .going) (and-there .0) (below-four f) {r = refusal} (rw (← and-there .1) (is-condition _ read w)),
+              one-refused conditionsOf withCondition (λ (l : Conditions). l .count) condition-counts condition-puts t (ascii "and") 39 condition-form same-state (g .going) (and-there .0) (below-four f) {r = refusal} (rw (← and-there .1) (is-condition _ read w)),
             )
 
         -- one more
@@ -227,7 +292,7 @@ module _ (t : ℕ → Tok) (view : View) (range : ℕ → Name) (fuel : ℕ) whe
             record {
               first = g .first;
               alone = g .alone;
-              going = one-more conditionsOf withCondition (λ (l : Conditions). l .count) condition-counts condition-puts t (ascii "and") 39 (conditionAt t view range fuel) (g .going) (and-there .0) (below-four f) (rw (← and-there .1) (is-condition _ read w)) e;
+              going = one-more conditionsOf withCondition (λ (l : Conditions). l .count) condition-counts condition-puts t (ascii "and") 39 condition-form same-state (g .going) (and-there .0) (below-four f) (rw (← and-there .1) (is-condition _ read w)) e;
             }
 
         pub ands-put : {y : Condition} {behind : Cursor} → one ≡ ConditionAnswer.Got y behind →

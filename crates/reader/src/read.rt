@@ -61,12 +61,13 @@ fn parse(
     text: &[u8],
     words: &[u32],
     sheet: &[u8],
+    lent: &[u8],
     line: u32,
     column: u32,
 ) -> Answer
-    ensures { λ r. ⌜ r ≡ answered (now (words .entry)) line column (ruleOf (now (text .entry)) (now (words .entry)) (viewOf settings (now (sheet .entry)))) ⌝ }
+    ensures { λ r. ⌜ r ≡ answered (now (words .entry)) line column (ruleOf (now (text .entry)) (now (words .entry)) (viewOf settings (now (sheet .entry))) (now (lent .entry))) ⌝ }
 {
-    let rule = section::rule(text, words, sheet, settings);
+    let rule = section::rule(text, words, sheet, settings, lent);
     let triggers = rule.triggers;
     let conditions = rule.conditions;
     if rule.accepted {
@@ -85,9 +86,15 @@ fn parse(
 
 // The call from question 4 on, where its primary adapter is its party's. The lexer asks question 4 before it lexes the whole text; then the tokens are
 // parsed. Questions 1 and 2 are passed, here and below.
-fn read_text(settings: Settings, text: &[u8], sheet: &[u8], words: &mut [u32]) -> Answer
+fn read_text(
+    settings: Settings,
+    text: &[u8],
+    sheet: &[u8],
+    lent: &[u8],
+    words: &mut [u32],
+) -> Answer
     requires { ⌜ (length (now text) ≤ mostBytes) × (leastWords ≤ length (now words)) ⌝ }
-    ensures { λ r. ⌜ (r ≡ byText (now (text .entry)) (viewOf settings (now (sheet .entry))) (now (words .entry)) true (checkOf (now (text .entry))) .answer) × (now (words .exit) ≡ byText (now (text .entry)) (viewOf settings (now (sheet .entry))) (now (words .entry)) true (checkOf (now (text .entry))) .buffer) ⌝ }
+    ensures { λ r. ⌜ (r ≡ byText (now (text .entry)) (viewOf settings (now (sheet .entry))) (now (lent .entry)) (now (words .entry)) true (checkOf (now (text .entry))) .answer) × (now (words .exit) ≡ byText (now (text .entry)) (viewOf settings (now (sheet .entry))) (now (lent .entry)) (now (words .entry)) true (checkOf (now (text .entry))) .buffer) ⌝ }
 {
     let lexed = tokens::lexer::lex(text, words);
     match lexed {
@@ -105,6 +112,7 @@ fn read_text(settings: Settings, text: &[u8], sheet: &[u8], words: &mut [u32]) -
             text,
             &words[..count * tokens::record::RECORD_SIZE],
             sheet,
+            lent,
             line,
             column,
         ),
@@ -123,9 +131,9 @@ fn not_own(text: &[u8]) -> Answer
 }
 
 // The call from question 3 on.
-fn read_sheet(call: Call, text: &[u8], sheet: &[u8], words: &mut [u32]) -> Answer
+fn read_sheet(call: Call, text: &[u8], sheet: &[u8], lent: &[u8], words: &mut [u32]) -> Answer
     requires { ⌜ (length (now text) ≤ mostBytes) × (leastWords ≤ length (now words)) ⌝ }
-    ensures { λ r. ⌜ (r ≡ bySheet (now (text .entry)) (seen call (now (sheet .entry))) (now (words .entry)) (ownPrimary call (now (sheet .entry))) (sheetCheck (now (sheet .entry))) .answer) × (now (words .exit) ≡ bySheet (now (text .entry)) (seen call (now (sheet .entry))) (now (words .entry)) (ownPrimary call (now (sheet .entry))) (sheetCheck (now (sheet .entry))) .buffer) ⌝ }
+    ensures { λ r. ⌜ (r ≡ bySheet (now (text .entry)) (seen call (now (sheet .entry))) (now (lent .entry)) (now (words .entry)) (ownPrimary call (now (sheet .entry))) (sheetCheck (now (sheet .entry))) .answer) × (now (words .exit) ≡ bySheet (now (text .entry)) (seen call (now (sheet .entry))) (now (lent .entry)) (now (words .entry)) (ownPrimary call (now (sheet .entry))) (sheetCheck (now (sheet .entry))) .buffer) ⌝ }
 {
     let primary = call.primary as u32;
     let habit = call.habit;
@@ -147,6 +155,7 @@ fn read_sheet(call: Call, text: &[u8], sheet: &[u8], words: &mut [u32]) -> Answe
                     },
                     text,
                     sheet,
+                    lent,
                     words,
                 );
             }
@@ -156,10 +165,10 @@ fn read_sheet(call: Call, text: &[u8], sheet: &[u8], words: &mut [u32]) -> Answe
 }
 
 // The call of either habit.
-pub fn read_by(call: Call, text: &[u8], sheet: &[u8], words: &mut [u32]) -> Answer
-    ensures { λ r. ⌜ (r ≡ readOf call (now (text .entry)) (now (sheet .entry)) (now (words .entry)) .answer) × (now (words .exit) ≡ readOf call (now (text .entry)) (now (sheet .entry)) (now (words .entry)) .buffer) ⌝ }
+pub fn read_by(call: Call, text: &[u8], sheet: &[u8], lent: &[u8], words: &mut [u32]) -> Answer
+    ensures { λ r. ⌜ (r ≡ readOf call (now (text .entry)) (now (sheet .entry)) (now (lent .entry)) (now (words .entry)) .answer) × (now (words .exit) ≡ readOf call (now (text .entry)) (now (sheet .entry)) (now (lent .entry)) (now (words .entry)) .buffer) ⌝ }
     ensures buffer { λ r. ⌜ Holds (frontOf (r .number) (now (text .entry))) (now (words .entry)) (now (words .exit)) ⌝ }
-    ensures reading { λ r. ⌜ Exact call (now (text .entry)) (now (sheet .entry)) (length (now (words .entry))) r ⌝ }
+    ensures reading { λ r. ⌜ Exact call (now (text .entry)) (now (sheet .entry)) (now (lent .entry)) (length (now (words .entry))) r ⌝ }
 {
     if tokens::lexer::MOST_BYTES < text.len() {
         return refused(1, 0, 0, 0);
@@ -167,17 +176,24 @@ pub fn read_by(call: Call, text: &[u8], sheet: &[u8], words: &mut [u32]) -> Answ
     if words.len() < tokens::lexer::LEAST_WORDS {
         return refused(2, 0, 0, 0);
     }
-    read_sheet(call, text, sheet, words)
+    read_sheet(call, text, sheet, lent, words)
 }
 
-// Reads a rule text with a name sheet, for a party, with its own primary adapter. The tokens' records go to the lent words. The answer, and each word at exit,
+// Reads a rule text with a name sheet and the lent topics of earlier rules, for a party, with its own primary adapter. The tokens' records go to the lent words. The answer, and each word at exit,
 // are those of the definition of the whole call; said in other words, the first words are the records of the tokens completed before the refusal, or of all, and
 // every other word is the one that was there; and the third demand: it is accepted exactly when the text has a reading with what the party sees of the sheet, with
 // that reading's lists. A repeated argument of `input(` is refused.
-pub fn read(text: &[u8], sheet: &[u8], party: u8, primary: u8, words: &mut [u32]) -> Answer
-    ensures { λ r. ⌜ (r ≡ readOf (ruleCall party primary) (now (text .entry)) (now (sheet .entry)) (now (words .entry)) .answer) × (now (words .exit) ≡ readOf (ruleCall party primary) (now (text .entry)) (now (sheet .entry)) (now (words .entry)) .buffer) ⌝ }
+pub fn read(
+    text: &[u8],
+    sheet: &[u8],
+    lent: &[u8],
+    party: u8,
+    primary: u8,
+    words: &mut [u32],
+) -> Answer
+    ensures { λ r. ⌜ (r ≡ readOf (ruleCall party primary) (now (text .entry)) (now (sheet .entry)) (now (lent .entry)) (now (words .entry)) .answer) × (now (words .exit) ≡ readOf (ruleCall party primary) (now (text .entry)) (now (sheet .entry)) (now (lent .entry)) (now (words .entry)) .buffer) ⌝ }
     ensures buffer { λ r. ⌜ Holds (frontOf (r .number) (now (text .entry))) (now (words .entry)) (now (words .exit)) ⌝ }
-    ensures reading { λ r. ⌜ Exact (ruleCall party primary) (now (text .entry)) (now (sheet .entry)) (length (now (words .entry))) r ⌝ }
+    ensures reading { λ r. ⌜ Exact (ruleCall party primary) (now (text .entry)) (now (sheet .entry)) (now (lent .entry)) (length (now (words .entry))) r ⌝ }
 {
     read_by(
         Call {
@@ -187,16 +203,24 @@ pub fn read(text: &[u8], sheet: &[u8], party: u8, primary: u8, words: &mut [u32]
         },
         text,
         sheet,
+        lent,
         words,
     )
 }
 
 // The archive loader's call: the same, but that a repeated argument of `input(` replaces the earlier one. Where `read` does not answer 63, this call answers
 // as it does.
-pub fn read_archive(text: &[u8], sheet: &[u8], party: u8, primary: u8, words: &mut [u32]) -> Answer
-    ensures { λ r. ⌜ (r ≡ readOf (archiveCall party primary) (now (text .entry)) (now (sheet .entry)) (now (words .entry)) .answer) × (now (words .exit) ≡ readOf (archiveCall party primary) (now (text .entry)) (now (sheet .entry)) (now (words .entry)) .buffer) ⌝ }
+pub fn read_archive(
+    text: &[u8],
+    sheet: &[u8],
+    lent: &[u8],
+    party: u8,
+    primary: u8,
+    words: &mut [u32],
+) -> Answer
+    ensures { λ r. ⌜ (r ≡ readOf (archiveCall party primary) (now (text .entry)) (now (sheet .entry)) (now (lent .entry)) (now (words .entry)) .answer) × (now (words .exit) ≡ readOf (archiveCall party primary) (now (text .entry)) (now (sheet .entry)) (now (lent .entry)) (now (words .entry)) .buffer) ⌝ }
     ensures buffer { λ r. ⌜ Holds (frontOf (r .number) (now (text .entry))) (now (words .entry)) (now (words .exit)) ⌝ }
-    ensures reading { λ r. ⌜ Exact (archiveCall party primary) (now (text .entry)) (now (sheet .entry)) (length (now (words .entry))) r ⌝ }
+    ensures reading { λ r. ⌜ Exact (archiveCall party primary) (now (text .entry)) (now (sheet .entry)) (now (lent .entry)) (length (now (words .entry))) r ⌝ }
 {
     read_by(
         Call {
@@ -206,6 +230,7 @@ pub fn read_archive(text: &[u8], sheet: &[u8], party: u8, primary: u8, words: &m
         },
         text,
         sheet,
+        lent,
         words,
     )
 }

@@ -6,6 +6,7 @@ use crate::parts::Whens;
 use model::Condition;
 use model::ConditionRow;
 use model::Conditions;
+use model::Trigger;
 use model::TriggerRow;
 use model::Triggers;
 use sections::condition;
@@ -16,8 +17,12 @@ use sheet::Settings;
 use tokens::cursor::Accepted;
 use tokens::cursor::Cursor;
 use tokens::cursor::Refusal;
+use topics::limit;
+use topics::ranges;
+use topics::ranges::Ranges;
+use topics::ranges::Topic;
 ghost use mathlib.Core.Path.{_≡_};
-ghost use mathlib.Core.List.{_∷_};
+ghost use mathlib.Core.List.{[], _∷_, _++_};
 ghost use mathlib.Core.Bool.{true};
 ghost use Rattle.text.specs.Literal.{ascii};
 ghost use Rattle.tokens.specs.Result.{ok, no, bind};
@@ -25,9 +30,12 @@ ghost use Rattle.tokens.specs.Cursor.{tokens};
 ghost use Rattle.tokens.specs.Record.{capacity};
 ghost use Rattle.sheet.specs.View.{viewOf};
 ghost use Rattle.language.specs.Range.{rangeOf};
-ghost use Rattle.language.specs.Trigger.{triggerAt};
+ghost use Rattle.topics.specs.Ranges.{withTopic, nameIn, topicsIn};
+ghost use Rattle.sections.specs.Answers.{toTrigger};
+ghost use Rattle.language.specs.Topics.{topicName, topicOf};
+ghost use Rattle.language.specs.Read.{topicsWith};
 ghost use Rattle.language.specs.Condition.{conditionAt};
-ghost use Rattle.language.specs.Section.{repeated, whenSection, ifSection, ruleAt};
+ghost use Rattle.language.specs.Section.{repeated, triggerNamed, whenSection, ifSection, ruleAt};
 ghost use Rattle.reader.specs.Parts.{unrefused, toWhens, toIfs, toRule, ruleEnd, ruleWith};
 
 fn whens_refused(refusal: Refusal) -> Whens
@@ -52,11 +60,73 @@ fn whens_done(list: Triggers, next: Cursor) -> Whens
     }
 }
 
+// The topic that a trigger names, if it names one.
+fn topic_of(x: Trigger) -> Topic
+    ensures { λ r. ⌜ r ≡ topicName x ⌝ }
+{
+    match x {
+        Trigger::MqttMessage(name) => Topic::Is(name),
+        Trigger::InputEvent(_, _) => Topic::Absent,
+        Trigger::InputOccupancy(_, _) => Topic::Absent,
+        Trigger::InputLightCross(_, _, _) => Topic::Absent,
+        Trigger::InputPositionChange(_) => Topic::Absent,
+        Trigger::InputDevicePowerCycled(_) => Topic::Absent,
+        Trigger::InputDeviceManualConfigChanged(_) => Topic::Absent,
+        Trigger::AtTime(_) => Topic::Absent,
+        Trigger::AtSolar(_, _) => Topic::Absent,
+        Trigger::Every(_) => Topic::Absent,
+        Trigger::LampTurns(_, _) => Topic::Absent,
+        Trigger::LampLevelCross(_, _, _) => Topic::Absent,
+        Trigger::GroupBecomes(_, _) => Topic::Absent,
+        Trigger::SceneRecalled(_, _) => Topic::Absent,
+        Trigger::DeviceOnline(_, _) => Topic::Absent,
+        Trigger::HclOverride(_, _) => Topic::Absent,
+        Trigger::TimerFires(_) => Topic::Absent,
+        Trigger::ControllerStarts => Topic::Absent,
+        Trigger::ControllerBecomesActive => Topic::Absent,
+        Trigger::RuleFails(_) => Topic::Absent,
+        Trigger::HttpTrigger => Topic::Absent,
+    }
+}
+
+// The topics with that of one trigger more.
+fn with_trigger(named: Ranges, x: Trigger) -> Ranges
+    ensures { λ r. ⌜ r ≡ withTopic named (topicName x) ⌝ }
+{
+    ranges::with_topic(named, topic_of(x))
+}
+
+// The trigger at c, behind others that named these topics. One topic too many is refused with 66 at the trigger's first word.
+fn trigger_named(
+    c: Cursor,
+    text: &[u8],
+    words: &[u32],
+    s: &[u8],
+    settings: Settings,
+    lent: &[u8],
+    named: Ranges,
+) -> TriggerAnswer
+    ensures { λ r. ⌜ r ≡ toTrigger (triggerNamed (tokens (now (text .entry)) (now (words .entry))) (viewOf settings (now (s .entry))) (rangeOf (now (words .entry))) (topicsWith (now (text .entry)) (now (lent .entry))) (capacity (now (words .entry))) (topicsIn (now (text .entry)) named) (c .index)) ⌝ }
+{
+    let i = c.index;
+    let one = trigger::trigger_at(c, text, words, s, settings);
+    match one {
+        TriggerAnswer::No(refusal) => return TriggerAnswer::No(refusal),
+        TriggerAnswer::Got(x, behind) => {
+            if limit::fits_behind(lent, text, named, topic_of(x)) {
+                return TriggerAnswer::Got(x, behind);
+            }
+            TriggerAnswer::No(tokens::cursor::refuse(66, i))
+        }
+    }
+}
+
 // As many triggers as there are `when`s; a fifth is refused with 37. Each is written to its place in the list, which is not copied.
-fn whens(c: Cursor, text: &[u8], words: &[u32], s: &[u8], settings: Settings) -> Whens
-    ensures { λ r. ⌜ r ≡ toWhens (repeated (tokens (now (text .entry)) (now (words .entry))) (ascii "when") 37 (triggerAt (tokens (now (text .entry)) (now (words .entry))) (viewOf settings (now (s .entry))) (rangeOf (now (words .entry))) (capacity (now (words .entry)))) 4 (c .index)) ⌝ }
+fn whens(c: Cursor, text: &[u8], words: &[u32], s: &[u8], settings: Settings, lent: &[u8]) -> Whens
+    ensures { λ r. ⌜ r ≡ toWhens (repeated (tokens (now (text .entry)) (now (words .entry))) (ascii "when") 37 (triggerNamed (tokens (now (text .entry)) (now (words .entry))) (viewOf settings (now (s .entry))) (rangeOf (now (words .entry))) (topicsWith (now (text .entry)) (now (lent .entry))) (capacity (now (words .entry)))) (λ named x. named ++ topicOf (nameIn (now (text .entry))) x) [] 4 (c .index)) ⌝ }
 {
     let mut list = parts::no_triggers();
+    let mut named = ranges::no_ranges();
     let mut p = c;
     loop {
         let i = p.index;
@@ -69,12 +139,13 @@ fn whens(c: Cursor, text: &[u8], words: &[u32], s: &[u8], settings: Settings) ->
                 if 4 <= list.count {
                     return whens_refused(tokens::cursor::refuse(37, i));
                 }
-                let one = trigger::trigger_at(next, text, words, s, settings);
+                let one = trigger_named(next, text, words, s, settings, lent, named);
                 match one {
                     TriggerAnswer::No(refusal) => {
                         return whens_refused(refusal);
                     }
                     TriggerAnswer::Got(x, behind) => {
+                        named = with_trigger(named, x);
                         let at = list.count;
                         list.rows[at] = TriggerRow { trigger: x };
                         list.count = at + 1;
@@ -87,12 +158,19 @@ fn whens(c: Cursor, text: &[u8], words: &[u32], s: &[u8], settings: Settings) ->
 }
 
 // The `when` section: no `when` at all is refused with 38.
-pub fn when_section(c: Cursor, text: &[u8], words: &[u32], s: &[u8], settings: Settings) -> Whens
-    ensures { λ r. ⌜ r ≡ toWhens (whenSection (tokens (now (text .entry)) (now (words .entry))) (viewOf settings (now (s .entry))) (rangeOf (now (words .entry))) (capacity (now (words .entry))) (c .index)) ⌝ }
+pub fn when_section(
+    c: Cursor,
+    text: &[u8],
+    words: &[u32],
+    s: &[u8],
+    settings: Settings,
+    lent: &[u8],
+) -> Whens
+    ensures { λ r. ⌜ r ≡ toWhens (whenSection (tokens (now (text .entry)) (now (words .entry))) (viewOf settings (now (s .entry))) (rangeOf (now (words .entry))) (topicsWith (now (text .entry)) (now (lent .entry))) (capacity (now (words .entry))) (c .index)) ⌝ }
 {
     let i = c.index;
     if c.peek_kw(text, words, b"when") {
-        return whens(c, text, words, s, settings);
+        return whens(c, text, words, s, settings, lent);
     }
     whens_refused(tokens::cursor::refuse(38, i))
 }
@@ -128,7 +206,7 @@ fn ands(
     settings: Settings,
     first: Condition,
 ) -> Ifs
-    ensures { λ r. ⌜ r ≡ toIfs (bind (repeated (tokens (now (text .entry)) (now (words .entry))) (ascii "and") 39 (conditionAt (tokens (now (text .entry)) (now (words .entry))) (viewOf settings (now (s .entry))) (rangeOf (now (words .entry))) (capacity (now (words .entry)))) 3 (c .index)) (λ ys l. ok (first ∷ ys) l)) ⌝ }
+    ensures { λ r. ⌜ r ≡ toIfs (bind (repeated (tokens (now (text .entry)) (now (words .entry))) (ascii "and") 39 (λ u. conditionAt (tokens (now (text .entry)) (now (words .entry))) (viewOf settings (now (s .entry))) (rangeOf (now (words .entry))) (capacity (now (words .entry)))) (λ u y. u) (tt {0}) 3 (c .index)) (λ ys l. ok (first ∷ ys) l)) ⌝ }
 {
     let mut list = parts::one_condition(first);
     let mut p = c;
@@ -229,10 +307,10 @@ fn rule_with(
 }
 
 // The whole rule.
-pub fn rule(text: &[u8], words: &[u32], s: &[u8], settings: Settings) -> Rule
-    ensures { λ r. ⌜ r ≡ toRule (ruleAt (tokens (now (text .entry)) (now (words .entry))) (viewOf settings (now (s .entry))) (rangeOf (now (words .entry))) (capacity (now (words .entry)))) ⌝ }
+pub fn rule(text: &[u8], words: &[u32], s: &[u8], settings: Settings, lent: &[u8]) -> Rule
+    ensures { λ r. ⌜ r ≡ toRule (ruleAt (tokens (now (text .entry)) (now (words .entry))) (viewOf settings (now (s .entry))) (rangeOf (now (words .entry))) (topicsWith (now (text .entry)) (now (lent .entry))) (capacity (now (words .entry)))) ⌝ }
 {
-    let whens = when_section(Cursor::new(), text, words, s, settings);
+    let whens = when_section(Cursor::new(), text, words, s, settings, lent);
     if whens.accepted {
         return rule_with(whens.next, text, words, s, settings, whens.list);
     }

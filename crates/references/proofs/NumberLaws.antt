@@ -5,8 +5,8 @@ use mathlib.Core.Path.{_≡_, refl}
 use mathlib.Core.Bool.{Bool, true, false}
 use mathlib.Core.List.{List, [], _∷_}
 use native.Mathlib.Omega.{arith}
-use lib.Dec.{leb, eqb}
-use borrow.Author.Tests.{leb-true, eqb-true, le-leb, lt-leb, ne-eqb}
+use lib.Dec.{leb}
+use borrow.Author.Tests.{leb-true, le-leb, lt-leb, ne-eqb}
 use Rattle.text.specs.Choice.{pick, within}
 use Rattle.tokens.specs.declared.cursor.Refusal.{Refusal}
 use Rattle.tokens.specs.Result.{Res, ok, no, bind, perhaps}
@@ -27,9 +27,9 @@ use Rattle.references.specs.declared.args.GroupArg.{GroupArg}
 use Rattle.model.specs.declared.Selector.{Selector}
 use Rattle.tokens.proofs.Okay.{both-true}
 
--- the numbers with which a rule is refused: 20 to 41, and of document 02 63, a repeated argument
+-- the numbers with which a rule is refused: 20 to 41, and of document 02 63, a repeated argument, and 64 to 66, which are about topics
 abbrev pub isRefusal : ℕ → Bool
-isRefusal n = pick (within 20 41 n) true (eqb n 63)
+isRefusal n = pick (within 20 41 n) true (within 63 66 n)
 
 -- a refusal, if it is one, has one of these numbers
 unfoldable pub Refuses : {A : Type 0} → Res A → Type 0
@@ -40,20 +40,27 @@ either-true : (x y : Bool) (P : Type 0) → (x ≡ true → P) → (y ≡ true �
 either-true true y P f g e = f refl
 either-true false y P f g e = g e
 
+-- a number of one of the two ranges
+by-range : (n : ℕ) (P : Type 0) → (20 ≤ n → n ≤ 41 → P) → (63 ≤ n → n ≤ 66 → P) → isRefusal n ≡ true → P
+by-range n P f g =
+    either-true (within 20 41 n) (within 63 66 n) P
+    (λ e. let b = both-true (leb 20 n) _ e in f (leb-true 20 n (b .0)) (leb-true n 41 (b .1)))
+    (λ e. let b = both-true (leb 63 n) _ e in g (leb-true 63 n (b .0)) (leb-true n 66 (b .1)))
+
 -- each is 20 or more: none is a question that is put before the parser's
 pub refusal-least : (n : ℕ) → isRefusal n ≡ true → 20 ≤ n
-refusal-least n = either-true (within 20 41 n) (eqb n 63) (20 ≤ n) (λ e. leb-true _ _ (both-true (leb 20 n) _ e .0)) (λ e. let q = eqb-true n 63 e in omega arith)
+refusal-least n = by-range n (20 ≤ n) (λ l m. l) (λ l m. omega arith)
+
+pub refusal-most : (n : ℕ) → isRefusal n ≡ true → n ≤ 66
+refusal-most n = by-range n (n ≤ 66) (λ l m. omega arith) (λ l m. m)
+
+not-asked-first : (n : ℕ) → 20 ≤ n → (n ≡ 53 → ⊥) → isAskedFirst n ≡ false
+not-asked-first n l h = rw (le-leb 1 n (omega arith), lt-leb n 4 (omega arith), ne-eqb n 53 h)
 
 -- and none is one that is asked before the text is lexed
 pub refusal-late : (n : ℕ) → isRefusal n ≡ true → isAskedFirst n ≡ false
 refusal-late n =
-    either-true (within 20 41 n) (eqb n 63) (isAskedFirst n ≡ false)
-    (λ e.
-    let b = both-true (leb 20 n) _ e in
-    let least = leb-true 20 n (b .0) in
-    let most = leb-true n 41 (b .1) in
-    rw (le-leb 1 n (omega arith), lt-leb n 4 (omega arith), ne-eqb n 53 (omega arith)))
-    (λ e. rw (eqb-true n 63 e))
+    by-range n (isAskedFirst n ≡ false) (λ l m. not-asked-first n l (λ e. omega arith)) (λ l m. not-asked-first n (omega arith) (λ e. omega arith))
 
 pub ok-refuses : {A : Type 0} (a : A) (j : ℕ) → Refuses (ok a j)
 unfolding Refuses

@@ -1,7 +1,7 @@
 // The forms of an answer in the words of docs/REPLAY.md. A form has a line for each of its codes, in the order of include/tergyosul.h; show.rt says how a line is read. The lines of a
 // form stand behind its letter, and the forms that they use before it: Reading, Selector, Event, Light target, Bound, Value, Operand, Trigger, Condition.
 
-pub const FORMS: [u8; 1726] = *b"R
+pub const FORMS: [u8; 1734] = *b"R
 lamp_level #1 #2
 lamp_cct #1 #2
 lamp_is_on #1 #2
@@ -79,6 +79,7 @@ controller_starts
 controller_becomes_active
 rule_fails $1
 http_trigger
+mqtt $1
 C
 time_in_range B1 B4
 sun_is |1|up|down

@@ -36,27 +36,43 @@ struct Head {
 }
 
 // The call of a habit.
-fn read(names: Names, text: &[u8], sheet: &[u8], words: &mut [u32], answer: &mut [u32]) -> u32 {
+fn read(
+    names: Names,
+    text: &[u8],
+    sheet: &[u8],
+    lent: &[u8],
+    words: &mut [u32],
+    answer: &mut [u32],
+) -> u32 {
     if names.habit == input::ARCHIVE {
         return tergyosul::tergyosul_read_archive(
             text,
             sheet,
+            lent,
             names.party,
             names.primary,
             words,
             answer,
         );
     }
-    tergyosul::tergyosul_read(text, sheet, names.party, names.primary, words, answer)
+    tergyosul::tergyosul_read(text, sheet, lent, names.party, names.primary, words, answer)
 }
 
 // Calls the reader with so many words and writes its answer; false where there are fewer.
-fn call(names: Names, id: u64, text: &[u8], sheet: &[u8], words: &mut [u32], count: usize) -> bool {
+fn call(
+    names: Names,
+    id: u64,
+    text: &[u8],
+    sheet: &[u8],
+    lent: &[u8],
+    words: &mut [u32],
+    count: usize,
+) -> bool {
     if words.len() < count {
         return false;
     }
     let mut answer = [layout::UNTOUCHED; layout::ANSWER];
-    let number = read(names, text, sheet, &mut words[..count], &mut answer);
+    let number = read(names, text, sheet, lent, &mut words[..count], &mut answer);
     report::case(id, text, words, &answer, number);
     true
 }
@@ -70,13 +86,12 @@ fn named(head: Head, sheet: &[u8]) -> Names {
     names
 }
 
-// Reads the topics of a call, which are not used yet; false where they are not there.
-fn pass_topics(head: Head) -> bool {
+// Reads the topics of a call into the start of a buffer; false where they are not there. A case has none.
+fn fill_topics(buffer: &mut [u8], head: Head) -> bool {
     if head.is_case {
         return true;
     }
-    let mut topics = [0u8; BYTES];
-    input::fill(&mut topics, head.topics)
+    input::fill(buffer, head.topics)
 }
 
 // Reads what follows the first line, and makes the call; false where it is not there.
@@ -84,13 +99,14 @@ fn run(head: Head) -> bool {
     let mut words = [layout::UNTOUCHED; WORDS];
     let mut text = [0u8; BYTES];
     let mut sheet = [0u8; BYTES];
+    let mut topics = [0u8; BYTES];
     if !input::fill(&mut text, head.text) {
         return false;
     }
     if !input::fill(&mut sheet, head.sheet) {
         return false;
     }
-    if !pass_topics(head) {
+    if !fill_topics(&mut topics, head) {
         return false;
     }
     let sheet = text::part::part(&sheet, 0, head.sheet);
@@ -99,6 +115,7 @@ fn run(head: Head) -> bool {
         head.id,
         text::part::part(&text, 0, head.text),
         sheet,
+        text::part::part(&topics, 0, head.topics),
         &mut words,
         head.words,
     )

@@ -1,6 +1,7 @@
 // `rules check RULES SHEET`, with perhaps options: both lists in plain words, or one diagnostic.
 use crate::diagnose;
 use crate::files;
+use crate::files::Loaded;
 use crate::layout;
 use crate::options;
 use crate::options::Options;
@@ -71,6 +72,7 @@ fn said(
     call: Call,
     text: &[u8],
     sheet: &[u8],
+    lent: &[u8],
     words: &mut [u32],
     answer: &[u32],
     text_name: &[u8],
@@ -83,14 +85,21 @@ fn said(
         accepted(text, seen, answer);
         return;
     }
-    diagnose::show(text, seen, words, answer, text_name, sheet_name, call);
+    diagnose::show(text, seen, lent, words, answer, text_name, sheet_name, call);
 }
 
 // Reads the rule and says what came of it.
-fn answered(call: Call, text: &[u8], sheet: &[u8], text_name: &[u8], sheet_name: &[u8]) {
+fn answered(
+    call: Call,
+    text: &[u8],
+    sheet: &[u8],
+    lent: &[u8],
+    text_name: &[u8],
+    sheet_name: &[u8],
+) {
     let mut words = [0u32; tokens::lexer::LEAST_WORDS];
     let mut answer = [0u32; 108];
-    if reading::read(call, text, sheet, &mut words, &mut answer) == 3 {
+    if reading::read(call, text, sheet, lent, &mut words, &mut answer) == 3 {
         diagnose::bad_sheet(sheet, &answer, sheet_name);
         return;
     }
@@ -98,6 +107,7 @@ fn answered(call: Call, text: &[u8], sheet: &[u8], text_name: &[u8], sheet_name:
         call,
         text,
         sheet,
+        lent,
         &mut words,
         &answer,
         text_name,
@@ -105,7 +115,30 @@ fn answered(call: Call, text: &[u8], sheet: &[u8], text_name: &[u8], sheet_name:
     );
 }
 
-// Reads both files and the rule.
+// Reads the file of topics with a name into a buffer, if the options name one.
+fn load_topics(o: Options, name: &[u8], buf: &mut [u8]) -> Loaded {
+    if o.topics == options::NO_TOPICS {
+        return Loaded { fault: 0, size: 0 };
+    }
+    files::load_topics(name, buf)
+}
+
+// Reads the file of topics, and the rule with it.
+fn with_topics(o: Options, text: &[u8], sheet: &[u8], text_name: &[u8], sheet_name: &[u8]) {
+    let mut buffer = [0u8; 4095];
+    let mut topics = [0u8; 20000];
+    let n = os::arg(o.topics, &mut buffer);
+    let name = text::part::part(&buffer, 0, n);
+    let loaded = load_topics(o, name, &mut topics);
+    if loaded.fault != 0 {
+        files::complain(name, loaded.fault);
+        return;
+    }
+    let lent = text::part::part(&topics, 0, loaded.size);
+    answered(asked(o, sheet), text, sheet, lent, text_name, sheet_name);
+}
+
+// Reads the files of the rule and the sheet, and what the options name.
 fn with_files(o: Options, text_name: &[u8], sheet_name: &[u8]) {
     let mut text = [0u8; 20000];
     let mut sheet = [0u8; 20000];
@@ -119,11 +152,10 @@ fn with_files(o: Options, text_name: &[u8], sheet_name: &[u8]) {
         files::complain(sheet_name, second.fault);
         return;
     }
-    let sheet = text::part::part(&sheet, 0, second.size);
-    answered(
-        asked(o, sheet),
+    with_topics(
+        o,
         text::part::part(&text, 0, first.size),
-        sheet,
+        text::part::part(&sheet, 0, second.size),
         text_name,
         sheet_name,
     );

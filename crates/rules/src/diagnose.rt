@@ -61,19 +61,19 @@ fn belonging(text: &[u8], sheet: &[u8], words: &[u32], f: Fault) {
     }
 }
 
-fn way_out(text: &[u8], sheet: &[u8], words: &[u32], f: Fault) {
+fn way_out(text: &[u8], sheet: &[u8], lent: &[u8], words: &[u32], f: Fault) {
     source::margin(f.line, b'=');
     out::bytes(b" help: ");
-    help::show(text, sheet, words, f);
+    help::show(text, sheet, lent, words, f);
     out::line_end();
 }
 
 // The diagnostic of a fault up to the last line of the output.
-fn explained(text: &[u8], sheet: &[u8], words: &[u32], name: &[u8], f: Fault) {
+fn explained(text: &[u8], sheet: &[u8], lent: &[u8], words: &[u32], name: &[u8], f: Fault) {
     head(text, sheet, words, name, f);
     line(text, words, f);
     belonging(text, sheet, words, f);
-    way_out(text, sheet, words, f);
+    way_out(text, sheet, lent, words, f);
 }
 
 // The last line of the output.
@@ -96,6 +96,7 @@ pub fn bad_sheet(sheet: &[u8], answer: &[u32], name: &[u8]) {
 pub fn show(
     text: &[u8],
     sheet: &[u8],
+    lent: &[u8],
     words: &mut [u32],
     answer: &[u32],
     text_name: &[u8],
@@ -105,9 +106,9 @@ pub fn show(
     let count = token_count(text, words);
     let f = fault::of(text, words, answer, count, call);
     if f.number == 53 {
-        explained(text, sheet, words, sheet_name, f);
+        explained(text, sheet, lent, words, sheet_name, f);
     } else {
-        explained(text, sheet, words, text_name, f);
+        explained(text, sheet, lent, words, text_name, f);
     }
     verdict(answer);
 }

@@ -1,5 +1,6 @@
 // What may stand at a place of a rule. The reader itself is asked: the text before the place with a candidate behind it is read anew,
-// by the call that refused the rule, and the candidate belongs there unless it is refused itself.
+// by the call that refused the rule, and the candidate belongs there unless it is refused itself. No topics are lent for that: they have no part in it,
+// and 66 would come before the candidate.
 use crate::fault::Fault;
 use crate::items;
 use crate::layout;
@@ -65,6 +66,7 @@ fn belongs(
         call,
         text::part::part(trial, 0, at),
         sheet,
+        b"",
         words,
         &mut answer,
     );
@@ -78,6 +80,7 @@ fn may_end(trial: &[u8], start: usize, sheet: &[u8], words: &mut [u32], call: Ca
         call,
         text::part::part(trial, 0, start),
         sheet,
+        b"",
         words,
         &mut answer,
     )
@@ -128,9 +131,9 @@ fn suggestion(list: &[u8], marks: &[u8], word: &[u8], line: u32) {
     out::bytes(b"?\n");
 }
 
-// The bytes of the token at the place; none at the end of the text.
+// The bytes of the token at the place, which may be a slip; none at the end of the text, and none for 40, whose words are no slips.
 fn word_at<'a, 'b>(text: &'a [u8], words: &'b [u32], f: Fault) -> &'a [u8] {
-    if f.token < f.count {
+    if f.number != 40 && f.token < f.count {
         return tokens::record::bytes(text, words, f.token);
     }
     &text[..0]
@@ -151,7 +154,7 @@ fn lines(list: &[u8], marks: &[u8], word: &[u8], line: u32) {
 // Asks the reader for each candidate and for the end of the text.
 pub fn show(text: &[u8], sheet: &[u8], words: &[u32], f: Fault) {
     let list =
-        b"\"x\" 1 12:00 1s when if and timer rule controller http every at scene device group hcl lamp input last_fired sun time var event sunrise sunset fires fails starts becomes active trigger recalled goes offline comes online any_on all_off override clears for broadcast turns on off crosses above below power cycled manual config changed changes is press release short_press double_press long_press_start long_press_repeat long_press_stop button_free button_stuck movement no_movement any_event occupied vacant running enabled overridden older than up down in level cct is_on last_level member_count light position last_event_age now hour minute weekday rise set is_up value instance option button absolute occupancy dev= inst= group= type= adapter= data= ( ) , . .. = == != >= <= > < + -";
+        b"\"x\" 1 12:00 1s when if and timer rule controller http mqtt every at scene device group hcl lamp input last_fired sun time var event sunrise sunset fires fails starts becomes active trigger recalled goes offline comes online any_on all_off override clears for broadcast turns on off crosses above below power cycled manual config changed changes is press release short_press double_press long_press_start long_press_repeat long_press_stop button_free button_stuck movement no_movement any_event occupied vacant running enabled overridden older than up down in level cct is_on last_level member_count light position last_event_age now hour minute weekday rise set is_up value instance option button absolute occupancy dev= inst= group= type= adapter= data= ( ) , . .. = == != >= <= > < + -";
     let mut trial = [0u8; 20000];
     let mut trial_words = [0u32; tokens::lexer::LEAST_WORDS];
     let mut marks = [0u8; 128];

@@ -2,7 +2,11 @@
 // bytes, which are too many for the reader as well, so that it is refused and never cut.
 use crate::out;
 
-// How reading a file went: 0 well, 1 no file name, 2 it cannot be opened, 3 it cannot be read to its end. Then how many bytes were read.
+// The most bytes of a file of topics: as many as the reader takes of a rule, and of a sheet.
+const MOST_TOPICS: usize = 16384;
+
+// How reading a file went: 0 well, 1 no file name, 2 it cannot be opened, 3 it cannot be read to its end, 4 it is a file of topics that is too long. Then
+// how many bytes were read.
 pub struct Loaded {
     pub fault: u32,
     pub size: usize,
@@ -41,12 +45,22 @@ pub fn load(name: &[u8], buf: &mut [u8]) -> Loaded {
     loaded
 }
 
-fn reason(fault: u32) {
-    if fault == 2 {
-        out::bytes(b": this file cannot be opened: it is missing, or may not be read\n");
-        return;
+// Reads a file of topics, for which the reader has no bound: one that may have been cut is not taken.
+pub fn load_topics(name: &[u8], buf: &mut [u8]) -> Loaded {
+    let loaded = load(name, buf);
+    if MOST_TOPICS < loaded.size {
+        return failed(4);
     }
-    out::bytes(b": this file cannot be read to its end: is it a folder?\n");
+    loaded
+}
+
+fn reason(fault: u32) {
+    let table = b"_ this file cannot be read to its end: is it a folder?
+2 this file cannot be opened: it is missing, or may not be read
+4 this file of topics has more than 16,384 bytes: write each topic once";
+    out::bytes(b": ");
+    out::entry(table, fault);
+    out::line_end();
 }
 
 // The reason why a file was not read, and the last line of the output.

@@ -11,6 +11,7 @@ timer timer(\"Close\") fires
 rule rule(\"Night\") fails
 controller controller starts` or `controller becomes active
 http http trigger
+mqtt mqtt \"till/close\"
 every every 15m
 at at 21:30` or `at sunset - 30m
 scene scene(3) recalled

@@ -4,6 +4,7 @@ use crate::forms;
 use crate::lookup;
 use crate::out;
 use crate::range;
+use crate::topic;
 
 // By the number of the refusal.
 fn of_uncut(number: u32) {
@@ -40,12 +41,12 @@ fn of_form(number: u32) {
 37 split the rule in two
 38 put a trigger first, as in `when lamp(\"Till\") turns on`
 39 split the rule in two
-40 leave it out: there are no days of the week after a time, no `day` and no `mqtt`
+40 leave it out: there are no days of the week after a time, no `day`, and no `is` behind a topic
 63 leave one of them out";
     out::entry(table, number);
 }
 
-pub fn show(text: &[u8], sheet: &[u8], words: &[u32], f: Fault) {
+pub fn show(text: &[u8], sheet: &[u8], lent: &[u8], words: &[u32], f: Fault) {
     if f.number < 20 {
         of_uncut(f.number);
         return;
@@ -72,6 +73,10 @@ pub fn show(text: &[u8], sheet: &[u8], words: &[u32], f: Fault) {
     }
     if 31 <= f.number && f.number <= 34 {
         lookup::show(text, sheet, words, f);
+        return;
+    }
+    if topic::is_of_topic(f.number) {
+        topic::help(text, lent, words, f);
         return;
     }
     of_form(f.number);

@@ -44,7 +44,7 @@ fn accepted(text: &[u8], words: &[u32], answer: &[u32]) {
     say::numbers(answer, b"accepted: %n3 token%P3\n");
 }
 
-// The tokens of the text, or the refusal of lexing, which no sheet plays a part in.
+// The tokens of the text, or the refusal of lexing, in which no sheet and no topic plays a part.
 fn answered(text: &[u8], name: &[u8]) {
     let mut words = [0u32; tokens::lexer::LEAST_WORDS];
     let mut answer = [0u32; 4];
@@ -54,7 +54,7 @@ fn answered(text: &[u8], name: &[u8]) {
             party: 0,
             primary: 0,
         };
-        diagnose::show(text, b"", &mut words, &answer, name, name, call);
+        diagnose::show(text, b"", b"", &mut words, &answer, name, name, call);
         return;
     }
     accepted(text, &words, &answer);

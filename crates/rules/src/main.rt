@@ -28,6 +28,7 @@ mod source;
 mod split;
 mod stands;
 mod title;
+mod topic;
 mod trial;
 mod value;
 
@@ -41,13 +42,16 @@ fn usage() {
 
 Options of check stand before its files:
 
-  --archive     reads as the archive loader does: a repeated argument of an input replaces the earlier one; otherwise a
-                repeat is refused
-  --party P     reads for party P, 0 to 255; otherwise for party 0. On a shared sheet the row party,A,P says that adapter
-                A is party P's, and an adapter without such a row is party 0's. What is on adapters of other parties is
-                as if it were not on the sheet
-  --primary A   takes adapter A, 0 to 255, where the rule names none; otherwise the one in the sheet's first line. It has
-                to be the party's
+  --archive       reads as the archive loader does: a repeated argument of an input replaces the earlier one; otherwise
+                  a repeat is refused
+  --party P       reads for party P, 0 to 255; otherwise for party 0. On a shared sheet the row party,A,P says that
+                  adapter A is party P's, and an adapter without such a row is party 0's. What is on adapters of other
+                  parties is as if it were not on the sheet
+  --primary A     takes adapter A, 0 to 255, where the rule names none; otherwise the one in the sheet's first line. It
+                  has to be the party's
+  --topics FILE   counts the mqtt topics in FILE, one a line, as those of earlier rules; otherwise there are none. A new
+                  topic is refused if eight others or more are named already. The lines are taken as they come, empty
+                  ones aside: a CR at the end of a line belongs to its topic. FILE has at most 16,384 bytes
 
 check prints each trigger and each condition in plain words, or one refusal: its place, what stands there, what
 belongs there, and a way out. The last line begins with `accepted`, or with `refused` and the refusal's number; if the
@@ -68,7 +72,7 @@ fn bad_arguments(wrong: u32) {
 5 an option is given twice";
     out::entry(table, wrong);
     out::bytes(
-        b"\nusage: rules check [--archive] [--party P] [--primary A] RULES SHEET | rules tokens RULES | rules help\nrefused: bad arguments\n",
+        b"\nusage: rules check [--archive] [--party P] [--primary A] [--topics FILE] RULES SHEET | rules tokens RULES | rules help\nrefused: bad arguments\n",
     );
 }
 

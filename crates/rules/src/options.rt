@@ -3,6 +3,9 @@
 // What stands for a number where none from 0 to 255 is given.
 pub const NONE: u32 = 256;
 
+// What stands for the index of a word where no file of topics is given: that of the command.
+pub const NO_TOPICS: usize = 1;
+
 // There is no such option.
 const UNKNOWN: u32 = 3;
 
@@ -12,11 +15,13 @@ const NO_NUMBER: u32 = 4;
 // An option is given twice.
 const TWICE: u32 = 5;
 
-// What the options say, NONE for a number that is not given; the index of the word behind them; and what is wrong with them, 0 for nothing.
+// What the options say, NONE for a number that is not given, and the index of the word that names the file of topics; the index of the word behind them; and
+// what is wrong with them, 0 for nothing.
 pub struct Options {
     pub archive: bool,
     pub party: u32,
     pub primary: u32,
+    pub topics: usize,
     pub at: usize,
     pub wrong: u32,
 }
@@ -100,6 +105,17 @@ fn with_number(o: Options, is_party: bool, before: u32, count: usize) -> Options
     other
 }
 
+// With the file behind `--topics`.
+fn with_topics(o: Options, count: usize) -> Options {
+    if o.topics != NO_TOPICS {
+        return refused(o, TWICE);
+    }
+    let mut other = o;
+    other.topics = further(o.at, 1, count);
+    other.at = further(o.at, 2, count);
+    other
+}
+
 // With the option that is this word.
 fn with_option(o: Options, word: &[u8], count: usize) -> Options {
     if text::part::same(word, b"--archive") {
@@ -110,6 +126,9 @@ fn with_option(o: Options, word: &[u8], count: usize) -> Options {
     }
     if text::part::same(word, b"--primary") {
         return with_number(o, false, o.primary, count);
+    }
+    if text::part::same(word, b"--topics") {
+        return with_topics(o, count);
     }
     refused(o, UNKNOWN)
 }
@@ -127,16 +146,17 @@ fn with_next(o: Options, count: usize) -> Options {
     with_option(o, text::part::part(&word, 0, n), count)
 }
 
-// The options of a call with so many words, its own name and the command among them. There are three; a fourth is one too many.
+// The options of a call with so many words, its own name and the command among them. There are four; a fifth is one too many.
 pub fn read(count: usize) -> Options {
     let mut o = Options {
         archive: false,
         party: NONE,
         primary: NONE,
+        topics: NO_TOPICS,
         at: 2,
         wrong: 0,
     };
-    let mut left: u32 = 4;
+    let mut left: u32 = 5;
     while left > 0 {
         o = with_next(o, count);
         left -= 1;

@@ -1,5 +1,5 @@
 // The range of a number that is out of it. The reader itself is asked: the text is read anew, by the call that refused it, with another number in its
-// place.
+// place. No topics are lent for that: they have no part in it.
 use crate::fault::Fault;
 use crate::layout;
 use crate::out;
@@ -25,6 +25,7 @@ fn is_in_range(text: &[u8], sheet: &[u8], f: Fault, behind: usize, number: &[u8]
         f.call,
         text::part::part(&trial, 0, at),
         sheet,
+        b"",
         &mut words,
         &mut answer,
     );

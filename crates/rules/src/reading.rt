@@ -3,15 +3,24 @@
 use sheet::Call;
 use sheet::Habit;
 
-// Reads a rule text with a sheet, by a call; 0, or the number of the refusal. Answer has its nine rows of twelve words.
-pub fn read(call: Call, text: &[u8], sheet: &[u8], words: &mut [u32], answer: &mut [u32]) -> u32 {
+// Reads a rule text with a sheet and the lent topics of earlier rules, by a call; 0, or the number of the refusal. Answer has its nine rows of twelve words.
+pub fn read(
+    call: Call,
+    text: &[u8],
+    sheet: &[u8],
+    lent: &[u8],
+    words: &mut [u32],
+    answer: &mut [u32],
+) -> u32 {
+    let party = call.party;
+    let primary = call.primary;
     let habit = call.habit;
     match habit {
         Habit::Rule => {
-            tergyosul::tergyosul_read(text, sheet, call.party, call.primary, words, answer)
+            tergyosul::tergyosul_read(text, sheet, lent, party, primary, words, answer)
         }
         Habit::Archive => {
-            tergyosul::tergyosul_read_archive(text, sheet, call.party, call.primary, words, answer)
+            tergyosul::tergyosul_read_archive(text, sheet, lent, party, primary, words, answer)
         }
     }
 }

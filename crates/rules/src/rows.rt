@@ -26,7 +26,8 @@ fn trigger(text: &[u8], sheet: &[u8], answer: &[u32], row: usize) {
 17 when the controller starts
 18 when the controller becomes active
 19 when rule %q1 fails
-20 when the http trigger comes";
+20 when the http trigger comes
+21 when a message comes on topic %q1";
     let sentence = split::numbered(table, layout::get(answer, row, 0));
     say::show(text, sheet, answer, row, sentence);
 }

@@ -13,7 +13,7 @@ fn is_row(l: &[u8]) -> bool {
     begins(l, b"lamp,") || begins(l, b"group,") || begins(l, b"device,") || begins(l, b"input,")
 }
 
-fn ends_with_return(l: &[u8]) -> bool {
+pub fn ends_with_return(l: &[u8]) -> bool {
     if l.len() == 0 {
         return false;
     }

@@ -125,12 +125,12 @@ fn code(text: &[u8], i: usize) {
     }
 }
 
-fn character(text: &[u8], i: usize) {
+// The character at an offset, with its code where it may be needed.
+pub fn character(text: &[u8], i: usize) {
     let w = text::part::part(text, i, out::behind(text, i));
     out::bytes(b"the character ");
     out::backquoted(w);
     code(text, i);
-    out::bytes(b" stands here");
 }
 
 // Before the text was cut into tokens: a byte, a character or a number.
@@ -146,6 +146,7 @@ fn uncut(text: &[u8], f: Fault) {
     }
     if f.number == 10 {
         character(text, i);
+        out::bytes(b" stands here");
         return;
     }
     if f.number == 19 {

@@ -5,6 +5,7 @@ use crate::reference;
 use crate::say;
 use crate::seen;
 use crate::split;
+use crate::topic;
 
 // 24 for a text that is compared with a variable, or for a name.
 fn too_long(words: &[u32], f: Fault) {
@@ -132,6 +133,10 @@ pub fn show(text: &[u8], sheet: &[u8], words: &[u32], f: Fault) {
     }
     if is_of_sheet(f.number) {
         of_sheet(text, sheet, words, f);
+        return;
+    }
+    if topic::is_of_topic(f.number) {
+        topic::title(text, words, f);
         return;
     }
     if f.number == 20 && f.token == f.count {

@@ -1,14 +1,18 @@
 -- Rules that follow the code of triggers: the definition stands on the right. One short set for each kind of function.
 use Prim.Native.Nat.{ℕ}
-use mathlib.Core.Path.{_≡_, ap}
+use mathlib.Core.Path.{_≡_, ap, sym, _∙_}
+use mathlib.Core.List.{List}
+use lib.Dec.{eqb}
 use lib.IntN.{ℤ}
 use mir.Syntax.{w32}
 use mir.Val.{SFits, toZ, ofZ}
 use mir.Facts.{toZ-ofZ}
 use Rattle.text.proofs.Tests.{lt-yes, lt-no, eq-yes, eq-no, told-yes, told-no}
-use Rattle.tokens.specs.Result.{Res, ok}
+use Rattle.text.specs.Choice.{pick}
+use Rattle.tokens.specs.Result.{Res, ok, no, refuse}
+use Rattle.tokens.specs.declared.cursor.Refusal.{Refusal}
 use Rattle.tokens.specs.Cursor.{Tok}
-use Rattle.tokens.proofs.Chain.{then-taken, stop-taken, perhaps-yes, perhaps-no}
+use Rattle.tokens.proofs.Chain.{taken-ok, taken-no, then-taken, stop-taken, perhaps-yes, perhaps-no}
 use Rattle.references.proofs.RefChain.{then-index, stop-index, then-scope, stop-scope, then-ref, stop-ref, then-target, stop-target}
 use Rattle.references.proofs.ArgChain.{then-selector, stop-selector, then-input, stop-input}
 use Rattle.model.specs.declared.Name.{Name}
@@ -25,9 +29,22 @@ use Rattle.model.specs.declared.Aggregate.{Aggregate}
 use Rattle.model.specs.declared.Online.{Online}
 use Rattle.model.specs.declared.Override.{Override}
 use Rattle.model.specs.declared.Trigger.{Trigger}
-use Rattle.model.specs.declared.Trigger.the-variants.{InputOccupancy, InputLightCross, AtSolar, LampTurns, LampLevelCross, GroupBecomes, SceneRecalled, DeviceOnline, HclOverride, TimerFires, RuleFails}
+use Rattle.model.specs.declared.Trigger.the-variants.{InputOccupancy, InputLightCross, AtSolar, LampTurns, LampLevelCross, GroupBecomes, SceneRecalled, DeviceOnline, HclOverride, TimerFires, RuleFails, MqttMessage}
+use Rattle.topics.specs.Topic.{topicNumber}
 use Rattle.language.specs.Trigger.{atBound}
 use Rattle.sections.proofs.AnswerChain.{then-bound, stop-bound, event-ok, event-no, event-same, then-event, stop-event, trigger-ok, trigger-no, trigger-same, eq-other, refused}
+
+-- the bytes p of a string are judged as a topic: q is what the code has of them, and r is its number
+module _ (p : List ℕ) {q : List ℕ} {r : ℕ} (number : r ≡ topicNumber q) (same : q ≡ p) where
+  pub topic-yes : {A : Type 0} (a b : A) {x : A} → r ≡ 0 → x ≡ a → x ≡ pick (eqb (topicNumber p) 0) a b
+  topic-yes a b h e = eq-yes (topicNumber p) 0 a b (ap topicNumber (sym same) ∙ sym number ∙ h) e
+
+  pub topic-no : {A : Type 0} (a b : A) {x : A} → (r ≡ 0 → ⊥) → x ≡ b → x ≡ pick (eqb (topicNumber p) 0) a b
+  topic-no a b h e = eq-no (topicNumber p) 0 a b (λ z. h (number ∙ ap topicNumber same ∙ z)) e
+
+  pub topic-refused : {A : Type 0} (i : ℕ) {refusal : Refusal} → refusal ≡ record { number = r; token = i; detail = 0 } →
+      _≡_ {A = Res A} (no refusal) (refuse (topicNumber p) i)
+  topic-refused i e = rw (e, number, same)
 
 -- a value x that the code takes apart: it was v, so the definition goes by v
 pub by-bound : (t : ℕ → Tok) (i : ℕ) (x : TimeBound) {v : TimeBound} {y : Res Trigger} → x ≡ v → y ≡ atBound t i v → y ≡ atBound t i x
@@ -46,6 +63,9 @@ timer-made n j e = rw e
 
 pub rule-made : (n : Name) (j : ℕ) {x : Name} → x ≡ n → ok (RuleFails x) j ≡ ok (RuleFails n) j
 rule-made n j e = rw e
+
+pub topic-made : (n : Name) (j : ℕ) {x : Name} → x ≡ n → ok (MqttMessage x) j ≡ ok (MqttMessage n) j
+topic-made n j e = rw e
 
 pub scene-made : (a n j : ℕ) {x : ℕ} → x ≡ a → ok (SceneRecalled x n) j ≡ ok (SceneRecalled a n) j
 scene-made a n j e = rw e
@@ -95,6 +115,12 @@ pub ruleset times = (
   solar-kept,
   refused,
 )
+
+-- a quoted topic
+pub ruleset topics = (taken-ok, taken-no, then-taken, stop-taken, topic-yes, topic-no, topic-refused)
+
+-- what may not follow it
+pub ruleset messages = (told-yes, told-no, then-taken, stop-taken, trigger-ok, trigger-no, topic-made, refused)
 
 pub ruleset scenes = (then-taken, stop-taken, then-scope, stop-scope, trigger-ok, trigger-no, trigger-same, scene-made)
 

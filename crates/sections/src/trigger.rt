@@ -30,12 +30,13 @@ use tokens::cursor::Cursor;
 use tokens::cursor::Refusal;
 use tokens::cursor::Taken;
 use tokens::kind;
+use topics::topic;
 ghost use mathlib.Core.Path.{_≡_};
-ghost use Rattle.tokens.specs.Cursor.{tokens};
+ghost use Rattle.tokens.specs.Cursor.{tokens, toTaken};
 ghost use Rattle.tokens.specs.Record.{capacity};
 ghost use Rattle.sheet.specs.View.{viewOf};
 ghost use Rattle.language.specs.Range.{rangeOf};
-ghost use Rattle.language.specs.Trigger.{powerOf, crossingOf, occupancyOf, aggregateOf, onlineOf, overrideOf, timerTrigger, ruleTrigger, controllerChange, controllerTrigger, httpTrigger, everyTrigger, atBound, atTrigger, sceneClosed, sceneTrigger, deviceTrigger, groupTrigger, hclTrigger, levelCross, lampChange, lampTrigger, inputDeviceChange, inputDeviceTrigger, rawData, rawEvent, eventOf, eventAt, inputEvent, inputBecomes, lightCross, positionChange, propertyTrigger, pointTrigger, inputChange, inputTrigger, triggerBy, triggerAt};
+ghost use Rattle.language.specs.Trigger.{powerOf, crossingOf, occupancyOf, aggregateOf, onlineOf, overrideOf, timerTrigger, ruleTrigger, controllerChange, controllerTrigger, httpTrigger, topicAt, mqttTrigger, everyTrigger, atBound, atTrigger, sceneClosed, sceneTrigger, deviceTrigger, groupTrigger, hclTrigger, levelCross, lampChange, lampTrigger, inputDeviceChange, inputDeviceTrigger, rawData, rawEvent, eventOf, eventAt, inputEvent, inputBecomes, lightCross, positionChange, propertyTrigger, pointTrigger, inputChange, inputTrigger, triggerBy, triggerAt};
 ghost use Rattle.sections.specs.Answers.{toEvent, toTrigger};
 
 // The shortest period, in milliseconds.
@@ -165,6 +166,41 @@ fn http_trigger(c: Cursor, text: &[u8], words: &[u32]) -> TriggerAnswer
     match word {
         Taken::No(refusal) => return TriggerAnswer::No(refusal),
         Taken::Got(_, behind) => return TriggerAnswer::Got(Trigger::HttpTrigger, behind),
+    }
+}
+
+// A quoted topic: an empty or forbidden one is refused with 64, one over 48 bytes with 65.
+fn topic_at(c: Cursor, text: &[u8], words: &[u32]) -> Taken
+    ensures { λ r. ⌜ r ≡ toTaken (topicAt (tokens (now (text .entry)) (now (words .entry))) (c .index)) ⌝ }
+{
+    let i = c.index;
+    let string = c.expect_string(text, words);
+    match string {
+        Taken::No(refusal) => return Taken::No(refusal),
+        Taken::Got(n, behind) => {
+            let number = topic::topic_number(tokens::cursor::bytes(text, words, i));
+            if number == 0 {
+                return Taken::Got(n, behind);
+            }
+            return Taken::No(tokens::cursor::refuse(number, i));
+        }
+    }
+}
+
+// `is` behind the topic is refused with 40.
+fn mqtt_trigger(c: Cursor, text: &[u8], words: &[u32]) -> TriggerAnswer
+    ensures { λ r. ⌜ r ≡ toTrigger (mqttTrigger (tokens (now (text .entry)) (now (words .entry))) (rangeOf (now (words .entry))) (c .index)) ⌝ }
+{
+    let i = c.index;
+    let topic = topic_at(c, text, words);
+    match topic {
+        Taken::No(refusal) => return TriggerAnswer::No(refusal),
+        Taken::Got(_, behind) => {
+            if behind.peek_kw(text, words, b"is") {
+                return TriggerAnswer::No(tokens::cursor::refuse(40, behind.index));
+            }
+            return TriggerAnswer::Got(Trigger::MqttMessage(name::range(words, i)), behind);
+        }
     }
 }
 
@@ -692,9 +728,8 @@ fn input_trigger(
     }
 }
 
-// The trigger with the n-th first word, at the token i. The last of them, mqtt, is refused with 40.
+// The trigger with the n-th first word.
 fn trigger_by(
-    i: usize,
     n: u32,
     behind: Cursor,
     text: &[u8],
@@ -702,7 +737,7 @@ fn trigger_by(
     s: &[u8],
     settings: Settings,
 ) -> TriggerAnswer
-    ensures { λ r. ⌜ r ≡ toTrigger (triggerBy (tokens (now (text .entry)) (now (words .entry))) (viewOf settings (now (s .entry))) (rangeOf (now (words .entry))) (capacity (now (words .entry))) i n (behind .index)) ⌝ }
+    ensures { λ r. ⌜ r ≡ toTrigger (triggerBy (tokens (now (text .entry)) (now (words .entry))) (viewOf settings (now (s .entry))) (rangeOf (now (words .entry))) (capacity (now (words .entry))) n (behind .index)) ⌝ }
 {
     match n {
         0 => return input_trigger(behind, text, words, s, settings),
@@ -717,7 +752,7 @@ fn trigger_by(
         9 => return controller_trigger(behind, text, words),
         10 => return rule_trigger(behind, text, words),
         11 => return http_trigger(behind, text, words),
-        _ => return TriggerAnswer::No(tokens::cursor::refuse(40, i)),
+        _ => return mqtt_trigger(behind, text, words),
     }
 }
 
@@ -731,10 +766,9 @@ pub fn trigger_at(
 ) -> TriggerAnswer
     ensures { λ r. ⌜ r ≡ toTrigger (triggerAt (tokens (now (text .entry)) (now (words .entry))) (viewOf settings (now (s .entry))) (rangeOf (now (words .entry))) (capacity (now (words .entry))) (c .index)) ⌝ }
 {
-    let i = c.index;
     let word = first::trigger_word(c, text, words);
     match word {
         Taken::No(refusal) => return TriggerAnswer::No(refusal),
-        Taken::Got(n, behind) => return trigger_by(i, n, behind, text, words, s, settings),
+        Taken::Got(n, behind) => return trigger_by(n, behind, text, words, s, settings),
     }
 }

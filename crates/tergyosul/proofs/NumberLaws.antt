@@ -6,9 +6,9 @@ use mathlib.Core.Path.{_≡_, refl}
 use mathlib.Core.Bool.{Bool, true, false}
 use mathlib.Core.List.{List}
 use lib.ListN.{length}
-use lib.Dec.{ltb, leb, eqb}
-use borrow.Author.Tests.{ltb-true, leb-true, eqb-true}
-use Rattle.text.specs.Choice.{pick, within}
+use lib.Dec.{ltb}
+use borrow.Author.Tests.{ltb-true}
+use Rattle.text.specs.Choice.{pick}
 use Rattle.text.specs.Utf8.{Character}
 use Rattle.text.specs.Place.{checkOf}
 use Rattle.text.specs.declared.place.Checked.{Checked}
@@ -17,21 +17,20 @@ use Rattle.tokens.specs.Result.{Res, ok, no}
 use Rattle.tokens.specs.Lex.{Lexing, lexText, mostBytes, leastWords}
 use Rattle.tokens.specs.Layout.{Laid, end, refusal, next, Lexical}
 use Rattle.tokens.proofs.LayoutLaws.{laid}
-use Rattle.tokens.proofs.Okay.{both-true}
 use Rattle.sheet.specs.Sheet.{Sheet, well-formed, bad-line, sheetCheck}
 use Rattle.sheet.specs.View.{View, seen, ownPrimary}
 use Rattle.sheet.specs.declared.Call.{Call}
 use Rattle.model.specs.Lists.{acceptedWith, refusedWith}
-use Rattle.references.proofs.NumberLaws.{isRefusal, Refuses}
+use Rattle.references.proofs.NumberLaws.{Refuses, refusal-most}
 use Rattle.language.proofs.RefusalLaws.{rule-refuses}
 use Rattle.language.specs.Section.{Lists}
 use Rattle.language.specs.Read.{parsed, ruleOf, lexedFrom, byPrimary, byText, bySheet, Outcome, readOf}
 use Rattle.flat.specs.Flat.{answerWords}
 use Rattle.tergyosul.specs.Room.{noRoom, byRoom}
 
--- the last number of documents 01 and 02 is 63
+-- the last number of a call that reads a text is 66
 abbrev Known : ℕ → Type 0
-Known n = n ≤ 63
+Known n = n ≤ 66
 
 lexical-known : {n : ℕ} → Lexical n → Known n
 lexical-known Lexical.no-token = omega arith
@@ -44,37 +43,30 @@ lexical-known Lexical.long = omega arith
 lexical-known Lexical.fine = omega arith
 lexical-known Lexical.too-many = omega arith
 
-refusal-known : (n : ℕ) → isRefusal n ≡ true → Known n
-refusal-known n = by (within 20 41 n) refl
-  where
-    by : (b : Bool) → within 20 41 n ≡ b → pick b true (eqb n 63) ≡ true → Known n
-    by true p q = let most : n ≤ 41 = leb-true n 41 (both-true (leb 20 n) (leb n 41) p .1) in omega arith
-    by false p q = let same : n ≡ 63 = eqb-true n 63 q in omega arith
-
 parsed-known : (l : Lexing) (m : Res Lists) → Refuses m → Known (parsed l m .number)
 unfolding parsed acceptedWith refusedWith Refuses
 parsed-known l (ok lists i) h = omega arith
-parsed-known l (no r) h = refusal-known _ h
+parsed-known l (no r) h = refusal-most _ h
 
-lexed-known : (text : List ℕ) (view : View) (whole l : Lexing) {before : List Character} → Laid text before l →
-    Known (lexedFrom text view whole l .number)
+lexed-known : (text : List ℕ) (view : View) (lent : List ℕ) (whole l : Lexing) {before : List Character} → Laid text before l →
+    Known (lexedFrom text view lent whole l .number)
 unfolding lexedFrom refusedWith ruleOf
-lexed-known text view whole l (end gap t h) = parsed-known whole _ (rule-refuses _ _ _ _)
-lexed-known text view whole l (refusal gap c rest t h n) = lexical-known n
-lexed-known text view whole l (next gap u rest t s h k) = lexed-known text view whole _ k
+lexed-known text view lent whole l (end gap t h) = parsed-known whole _ (rule-refuses _ _ _ _ _)
+lexed-known text view lent whole l (refusal gap c rest t h n) = lexical-known n
+lexed-known text view lent whole l (next gap u rest t s h k) = lexed-known text view lent whole _ k
 
-module _ (call : Call) (text sheet words : List ℕ) where
-  own-known : (own : Bool) → Known (byPrimary text (seen call sheet) words own .answer .number)
+module _ (call : Call) (text sheet lent words : List ℕ) where
+  own-known : (own : Bool) → Known (byPrimary text (seen call sheet) lent words own .answer .number)
   unfolding byPrimary refusedWith
-  own-known true = lexed-known text (seen call sheet) (lexText text) (lexText text) (laid text)
+  own-known true = lexed-known text (seen call sheet) lent (lexText text) (lexText text) (laid text)
   own-known false = omega arith
 
-  text-known : (own : Bool) (c : Checked) → Known (byText text (seen call sheet) words own c .answer .number)
+  text-known : (own : Bool) (c : Checked) → Known (byText text (seen call sheet) lent words own c .answer .number)
   unfolding byText refusedWith
   text-known own WellFormed = own-known own
   text-known own (IllFormed line column) = omega arith
 
-  sheet-known : (own : Bool) (x : Sheet) → Known (bySheet text (seen call sheet) words own x .answer .number)
+  sheet-known : (own : Bool) (x : Sheet) → Known (bySheet text (seen call sheet) lent words own x .answer .number)
   unfolding bySheet refusedWith
   sheet-known own well-formed = text-known own (checkOf text)
   sheet-known own (bad-line n) = omega arith
@@ -83,7 +75,7 @@ module _ (call : Call) (text sheet words : List ℕ) where
   either true x y h k = h
   either false x y h k = k
 
-  read-known : Known (readOf call text sheet words .answer .number)
+  read-known : Known (readOf call text sheet lent words .answer .number)
   unfolding readOf refusedWith
   read-known =
       let first : Known 1 = omega arith in
@@ -92,12 +84,12 @@ module _ (call : Call) (text sheet words : List ℕ) where
       (either (ltb (length words) leastWords) (record { answer = refusedWith 2 0 0 0; buffer = words }) _ second (sheet-known (ownPrimary call sheet) (sheetCheck sheet)))
 
   -- "No refusal has this number."
-  pub no-room-alone : (answer : List ℕ) → byRoom answerWords answer noRoom (readOf call text sheet words .answer .number) ≡ noRoom →
+  pub no-room-alone : (answer : List ℕ) → byRoom answerWords answer noRoom (readOf call text sheet lent words .answer .number) ≡ noRoom →
       length answer < answerWords
   unfolding byRoom
   no-room-alone answer e = by (ltb (length answer) answerWords) refl e
     where
-      by : (b : Bool) → ltb (length answer) answerWords ≡ b → pick b noRoom (readOf call text sheet words .answer .number) ≡ noRoom →
+      by : (b : Bool) → ltb (length answer) answerWords ≡ b → pick b noRoom (readOf call text sheet lent words .answer .number) ≡ noRoom →
           length answer < answerWords
       by true p q = ltb-true _ _ p
       by false p q = let known = read-known in absurd (omega arith)

@@ -64,34 +64,42 @@ pub extern "C" fn tergyosul_lex(text: &[u8], words: &mut [u32], answer: &mut [u3
 }
 
 // The call of either habit.
-fn read_by(call: Call, text: &[u8], sheet: &[u8], words: &mut [u32], answer: &mut [u32]) -> u32
-    ensures number { λ r. ⌜ r ≡ byRoom answerWords (now (answer .entry)) noRoom (readOf call (now (text .entry)) (now (sheet .entry)) (now (words .entry)) .answer .number) ⌝ }
-    ensures words { λ _. ⌜ now (words .exit) ≡ byRoom answerWords (now (answer .entry)) (now (words .entry)) (readOf call (now (text .entry)) (now (sheet .entry)) (now (words .entry)) .buffer) ⌝ }
-    ensures answer { λ _. ⌜ now (answer .exit) ≡ flat (now (answer .entry)) (readOf call (now (text .entry)) (now (sheet .entry)) (now (words .entry)) .answer) ⌝ }
+fn read_by(
+    call: Call,
+    text: &[u8],
+    sheet: &[u8],
+    lent: &[u8],
+    words: &mut [u32],
+    answer: &mut [u32],
+) -> u32
+    ensures number { λ r. ⌜ r ≡ byRoom answerWords (now (answer .entry)) noRoom (readOf call (now (text .entry)) (now (sheet .entry)) (now (lent .entry)) (now (words .entry)) .answer .number) ⌝ }
+    ensures words { λ _. ⌜ now (words .exit) ≡ byRoom answerWords (now (answer .entry)) (now (words .entry)) (readOf call (now (text .entry)) (now (sheet .entry)) (now (lent .entry)) (now (words .entry)) .buffer) ⌝ }
+    ensures answer { λ _. ⌜ now (answer .exit) ≡ flat (now (answer .entry)) (readOf call (now (text .entry)) (now (sheet .entry)) (now (lent .entry)) (now (words .entry)) .answer) ⌝ }
 {
     if answer.len() < flat::ANSWER_WORDS {
         return NO_ROOM;
     }
-    let a = reader::read::read_by(call, text, sheet, words);
+    let a = reader::read::read_by(call, text, sheet, lent, words);
     flat::put_answer(answer, a);
     a.number
 }
 
-// Reads a rule text with a name sheet, for a party, with its own primary adapter. The result is 0, or the number of the refusal; answer gets the
+// Reads a rule text with a name sheet and the lent topics of earlier rules, for a party, with its own primary adapter. The result is 0, or the number of the refusal; answer gets the
 // whole answer. If it has no room for that, nothing is read or written, and the result is NO_ROOM. The words are lent for the records of the
 // tokens: at least 5,120. A repeated argument of `input(` is refused.
 #[no_mangle]
 pub extern "C" fn tergyosul_read(
     text: &[u8],
     sheet: &[u8],
+    lent: &[u8],
     party: u8,
     primary: u8,
     words: &mut [u32],
     answer: &mut [u32],
 ) -> u32
-    ensures number { λ r. ⌜ r ≡ byRoom answerWords (now (answer .entry)) noRoom (readOf (ruleCall party primary) (now (text .entry)) (now (sheet .entry)) (now (words .entry)) .answer .number) ⌝ }
-    ensures words { λ _. ⌜ now (words .exit) ≡ byRoom answerWords (now (answer .entry)) (now (words .entry)) (readOf (ruleCall party primary) (now (text .entry)) (now (sheet .entry)) (now (words .entry)) .buffer) ⌝ }
-    ensures answer { λ _. ⌜ now (answer .exit) ≡ flat (now (answer .entry)) (readOf (ruleCall party primary) (now (text .entry)) (now (sheet .entry)) (now (words .entry)) .answer) ⌝ }
+    ensures number { λ r. ⌜ r ≡ byRoom answerWords (now (answer .entry)) noRoom (readOf (ruleCall party primary) (now (text .entry)) (now (sheet .entry)) (now (lent .entry)) (now (words .entry)) .answer .number) ⌝ }
+    ensures words { λ _. ⌜ now (words .exit) ≡ byRoom answerWords (now (answer .entry)) (now (words .entry)) (readOf (ruleCall party primary) (now (text .entry)) (now (sheet .entry)) (now (lent .entry)) (now (words .entry)) .buffer) ⌝ }
+    ensures answer { λ _. ⌜ now (answer .exit) ≡ flat (now (answer .entry)) (readOf (ruleCall party primary) (now (text .entry)) (now (sheet .entry)) (now (lent .entry)) (now (words .entry)) .answer) ⌝ }
 {
     read_by(
         Call {
@@ -101,6 +109,7 @@ pub extern "C" fn tergyosul_read(
         },
         text,
         sheet,
+        lent,
         words,
         answer,
     )
@@ -111,14 +120,15 @@ pub extern "C" fn tergyosul_read(
 pub extern "C" fn tergyosul_read_archive(
     text: &[u8],
     sheet: &[u8],
+    lent: &[u8],
     party: u8,
     primary: u8,
     words: &mut [u32],
     answer: &mut [u32],
 ) -> u32
-    ensures number { λ r. ⌜ r ≡ byRoom answerWords (now (answer .entry)) noRoom (readOf (archiveCall party primary) (now (text .entry)) (now (sheet .entry)) (now (words .entry)) .answer .number) ⌝ }
-    ensures words { λ _. ⌜ now (words .exit) ≡ byRoom answerWords (now (answer .entry)) (now (words .entry)) (readOf (archiveCall party primary) (now (text .entry)) (now (sheet .entry)) (now (words .entry)) .buffer) ⌝ }
-    ensures answer { λ _. ⌜ now (answer .exit) ≡ flat (now (answer .entry)) (readOf (archiveCall party primary) (now (text .entry)) (now (sheet .entry)) (now (words .entry)) .answer) ⌝ }
+    ensures number { λ r. ⌜ r ≡ byRoom answerWords (now (answer .entry)) noRoom (readOf (archiveCall party primary) (now (text .entry)) (now (sheet .entry)) (now (lent .entry)) (now (words .entry)) .answer .number) ⌝ }
+    ensures words { λ _. ⌜ now (words .exit) ≡ byRoom answerWords (now (answer .entry)) (now (words .entry)) (readOf (archiveCall party primary) (now (text .entry)) (now (sheet .entry)) (now (lent .entry)) (now (words .entry)) .buffer) ⌝ }
+    ensures answer { λ _. ⌜ now (answer .exit) ≡ flat (now (answer .entry)) (readOf (archiveCall party primary) (now (text .entry)) (now (sheet .entry)) (now (lent .entry)) (now (words .entry)) .answer) ⌝ }
 {
     read_by(
         Call {
@@ -128,6 +138,7 @@ pub extern "C" fn tergyosul_read_archive(
         },
         text,
         sheet,
+        lent,
         words,
         answer,
     )

@@ -2,6 +2,7 @@ pub mod Tests
 pub mod AsciiLaws
 pub mod Computed
 pub mod WhiteLaws
+pub mod CategoryLaws
 pub mod Utf8Laws
 pub mod Utf8Rules
 pub mod CharLaws

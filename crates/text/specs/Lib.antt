@@ -4,6 +4,7 @@ pub mod Ascii
 pub mod Rfc3629
 pub mod Utf8
 pub mod White
+pub mod Category
 pub mod Place
 pub mod Part
 pub mod Find

@@ -9,7 +9,7 @@ pub record Range : Type 0 where
   pub first : ℕ
   pub last : ℕ
 
-abbrev span : ℕ → ℕ → Range
+abbrev pub span : ℕ → ℕ → Range
 span a b = record { first = a; last = b }
 
 abbrev one : ℕ → Range

@@ -42,10 +42,21 @@ impl Case {
         self.settings.as_ref().map_or_else(|| own_primary(&self.sheet), |settings| settings.primary)
     }
 
+    /// The topics of earlier rules that the call lends, one a line (document 02 §12); a `case` line lends none.
+    pub fn topics(&self) -> &[u8] {
+        self.settings.as_ref().map_or(&[], |settings| &settings.topics)
+    }
+
     /// The same as a `call` line of this party with this primary.
     pub fn with_party(&self, party: u8, primary: u8) -> Case {
-        let topics = self.settings.as_ref().map_or_else(Vec::new, |settings| settings.topics.clone());
-        Case { settings: Some(Settings { habit: self.habit(), party, primary, topics }), ..self.clone() }
+        let settings = Settings { habit: self.habit(), party, primary, topics: self.topics().to_vec() };
+        Case { settings: Some(settings), ..self.clone() }
+    }
+
+    /// The same as a `call` line that lends these topics.
+    pub fn with_topics(&self, topics: impl Into<Vec<u8>>) -> Case {
+        let settings = Settings { habit: self.habit(), party: self.party(), primary: self.primary(), topics: topics.into() };
+        Case { settings: Some(settings), ..self.clone() }
     }
 
     /// The same with this habit. A `case` line that has it already stays one.
@@ -250,6 +261,16 @@ mod tests {
         let other = call.with_party(7, 200);
         assert_eq!((other.habit(), other.party(), other.primary()), (Habit::Rule, 7, 200));
         assert_eq!(first_line(&case.with_party(7, 200)), "call 1 archive 0 7 200 0 9 0");
+    }
+
+    #[test]
+    fn a_case_lends_no_topics() {
+        let case = Case::new(1, 0, [], b"primary,4".as_slice());
+        assert_eq!(case.topics(), b"");
+        let call = case.with_topics(*b"a\n\nb");
+        assert_eq!((call.topics(), call.habit(), call.party(), call.primary()), (&b"a\n\nb"[..], Habit::Archive, 0, 4));
+        assert_eq!(call.with_party(7, 200).with_habit(Habit::Rule).topics(), call.topics());
+        assert_eq!(first_line(&call), "call 1 archive 0 0 4 0 9 4");
     }
 
     #[test]

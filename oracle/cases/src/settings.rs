@@ -27,12 +27,13 @@ impl Habit {
     }
 }
 
-/// The settings of a call. Topics are for a request that has not landed; nothing reads them yet.
+/// The settings of a call.
 #[derive(Debug, Clone, PartialEq, Eq)]
 pub struct Settings {
     pub habit: Habit,
     pub party: u8,
     pub primary: u8,
+    /// The topics of earlier rules, one a line, as the caller lends them (document 02 §12).
     pub topics: Vec<u8>,
 }
 

@@ -1,6 +1,6 @@
 //! What a case covered, read off its answer in the replay format, and off its text for what the answer does not say.
 
-use crate::{durations, parties, records, repeats};
+use crate::{durations, parties, records, repeats, topics};
 use cases::Case;
 use std::io::{self, Write};
 
@@ -12,14 +12,14 @@ const TOKENS: &[&str] = &[
 const REFUSALS: &[&str] = &[
     "1", "2", "3", "4", "10", "11", "12", "13", "15", "16", "17", "18", "19", "20", "21", "22", "23", "24", "25", "26", "27",
     "28", "29", "30", "31", "32", "33", "34", "35", "36", "37", "38", "39", "40", "41", "53",
-    "63",
+    "63", "64", "65", "66",
 ];
 
 const TRIGGERS: &[&str] = &[
     "input_event", "input_occupancy", "input_light_cross", "input_position_change", "input_device_power_cycled",
     "input_device_manual_config_changed", "at_time", "at_solar", "every", "lamp_turns", "lamp_level_cross",
     "group_becomes", "scene_recalled", "device_online", "hcl_override", "timer_fires", "controller_starts",
-    "controller_becomes_active", "rule_fails", "http_trigger",
+    "controller_becomes_active", "rule_fails", "http_trigger", "mqtt",
 ];
 
 const CONDITIONS: &[&str] = &[
@@ -63,7 +63,8 @@ const GROUPS: &[(&str, &[&str])] = &[
     ("refused", REFUSALS), ("token", TOKENS), ("trigger", TRIGGERS), ("condition", CONDITIONS), ("reading", READINGS),
     ("event", EVENTS), ("selector", SELECTORS), ("target", TARGETS), ("bound", BOUNDS), ("comparison", COMPARISONS),
     ("value", VALUES), ("choice", CHOICES), ("count", COUNTS), ("duration", durations::SORTS),
-    ("buffer", records::SORTS), ("repeat", repeats::SORTS), ("party", parties::SORTS), ("line", repeats::LINES),
+    ("buffer", records::SORTS), ("repeat", repeats::SORTS), ("party", parties::SORTS), ("topic", topics::SORTS),
+    ("line", repeats::LINES),
 ];
 
 /// The places of the groups in `GROUPS`.
@@ -84,11 +85,12 @@ const DURATION: usize = 13;
 const BUFFER: usize = 14;
 const REPEAT: usize = 15;
 const PARTY: usize = 16;
-const LINE: usize = 17;
+const TOPIC: usize = 17;
+const LINE: usize = 18;
 
 /// The set of what one answer shows; each member is numbered along `GROUPS`.
 #[derive(Debug, Clone, Copy, Default, PartialEq, Eq, Hash, PartialOrd, Ord)]
-pub struct Features([u64; 6]);
+pub struct Features([u64; 8]);
 
 /// The number of members there are.
 pub fn feature_count() -> usize {
@@ -114,6 +116,7 @@ impl Features {
         records::sorts(case, answer).into_iter().for_each(|sort| set.mark(BUFFER, Some(sort)));
         repeats::sorts(case, answer).iter().for_each(|sort| set.mark(REPEAT, Some(sort)));
         parties::sorts(case, answer).into_iter().for_each(|sort| set.mark(PARTY, Some(sort)));
+        topics::sorts(case, answer).iter().for_each(|sort| set.mark(TOPIC, Some(sort)));
         set.mark(LINE, Some(repeats::line(case)));
         for line in answer.lines() {
             let mut fields = line.split(' ');

@@ -12,6 +12,7 @@ mod repeats;
 pub mod run;
 pub mod shrink;
 mod tokens;
+mod topics;
 pub mod vectors;
 
 #[cfg(test)]

@@ -91,6 +91,9 @@ fn report(options: &Options, readers: &Readers, difference: &Difference) -> io::
     let small = smallest(difference, readers);
     println!("{}", first_line(&small.case));
     println!("{}\n{}", small.case.text.escape_ascii(), small.case.sheet.escape_ascii());
+    if !small.case.topics().is_empty() {
+        println!("{}", small.case.topics().escape_ascii());
+    }
     if small.other == Other::Beside {
         println!("beside it\n{}", generate::beside(&small.case).sheet.escape_ascii());
     }

@@ -2,8 +2,8 @@
 
 use cases::{Case, LEAST_WORDS as USUAL_WORDS};
 
-/// A case as small as dropping rows of the sheet, tokens and bytes makes it, with `shows` true of it all the way.
-/// `shows` is asked at most `tries` times. If it is not true of `case`, that comes back as it is.
+/// A case as small as dropping rows of the sheet, lent topics, tokens and bytes makes it, with `shows` true of it all the
+/// way. `shows` is asked at most `tries` times. If it is not true of `case`, that comes back as it is.
 pub fn shrink(case: &Case, tries: usize, shows: &mut dyn FnMut(&Case) -> bool) -> Case {
     let mut left = tries;
     let mut shows = |case: &Case| {
@@ -16,8 +16,13 @@ pub fn shrink(case: &Case, tries: usize, shows: &mut dyn FnMut(&Case) -> bool) -
         with_usual_words(&mut best, &mut shows);
         without_settings(&mut best, &mut shows);
         without_parties(&mut best, &mut shows);
-        for split in [rows as fn(&[u8]) -> Vec<&[u8]>, bytes] {
+        for split in [lines as fn(&[u8]) -> Vec<&[u8]>, bytes] {
             best.sheet = drop_pieces(&best.sheet, split, &mut |sheet| shows(&Case { sheet: sheet.to_vec(), ..best.clone() }));
+        }
+        // A `case` line has none to drop, and stays one.
+        for split in [lines as fn(&[u8]) -> Vec<&[u8]>, bytes] {
+            let topics = drop_pieces(best.topics(), split, &mut |topics| shows(&best.with_topics(topics)));
+            best = if best.settings.is_some() { best.with_topics(topics) } else { best };
         }
         for split in [tokens as fn(&[u8]) -> Vec<&[u8]>, bytes] {
             best.text = drop_pieces(&best.text, split, &mut |text| shows(&Case { text: text.to_vec(), ..best.clone() }));
@@ -29,7 +34,7 @@ pub fn shrink(case: &Case, tries: usize, shows: &mut dyn FnMut(&Case) -> bool) -
 }
 
 fn weight(case: &Case) -> usize {
-    case.text.len() + case.sheet.len()
+    case.text.len() + case.sheet.len() + case.topics().len()
 }
 
 /// A case that does without another buffer is easier to read.
@@ -50,7 +55,7 @@ fn without_settings(best: &mut Case, shows: &mut dyn FnMut(&Case) -> bool) {
 
 /// And one in which there is one party only, so that it need not be a `call` line.
 fn without_parties(best: &mut Case, shows: &mut dyn FnMut(&Case) -> bool) {
-    let others: Vec<&[u8]> = rows(&best.sheet).into_iter().filter(|row| !row.starts_with(b"party,")).collect();
+    let others: Vec<&[u8]> = lines(&best.sheet).into_iter().filter(|row| !row.starts_with(b"party,")).collect();
     let plain = Case { settings: None, sheet: others.concat(), ..best.clone() };
     if best.settings.is_some() && shows(&plain) {
         *best = plain;
@@ -77,8 +82,8 @@ fn drop_pieces(whole: &[u8], split: fn(&[u8]) -> Vec<&[u8]>, shows: &mut dyn FnM
     pieces.concat()
 }
 
-fn rows(sheet: &[u8]) -> Vec<&[u8]> {
-    sheet.split_inclusive(|&b| b == b'\n').collect()
+fn lines(whole: &[u8]) -> Vec<&[u8]> {
+    whole.split_inclusive(|&b| b == b'\n').collect()
 }
 
 fn bytes(whole: &[u8]) -> Vec<&[u8]> {

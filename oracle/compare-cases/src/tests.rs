@@ -131,7 +131,7 @@ fn features_are_read_off_an_answer() {
         "count T 2", "count C 3", "buffer least taken", "line case",
     ];
     assert_eq!(names, wanted);
-    assert!(feature_count() <= 384);
+    assert!(feature_count() <= 512);
 }
 
 #[test]
@@ -301,6 +301,139 @@ fn what_shows_of_another_party_is_found() {
         assert_eq!(found.other, Other::Beside);
         let small = smallest(&found, &readers);
         assert!(readers.differs(Other::Beside, &small.case) && small.case.text.len() + small.case.sheet.len() < 200, "{:?}", small.case);
+    }
+}
+
+/// So many lent topics: `1`, `2` and so on.
+fn numbered(count: usize) -> String {
+    (1..=count).map(|topic| topic.to_string()).collect::<Vec<_>>().join("\n")
+}
+
+#[test]
+fn topics_and_what_decides_are_counted() {
+    let long = "a".repeat(49);
+    let wide = "\u{e9}".repeat(24);
+    for (lent, text, wanted) in [
+        (0, "mqtt \"\"", "64 empty"),
+        (0, "mqtt \"a+\"", "64 U+002B"),
+        (8, "mqtt \"#\" is", "64 U+0023, 64 for 66, 64 before is"),
+        (0, "mqtt \"\u{0}\"", "64 U+0000"),
+        (0, "mqtt \"\t\"", "64 another control character"),
+        (0, "mqtt \"\u{9f}\"", "64 U+009F"),
+        (0, "mqtt \"\u{fdef}\"", "64 U+FDEF"),
+        (0, "mqtt \"\u{fde0}\"", "64 between those"),
+        (0, "mqtt \"\u{ffff}\"", "64 plane 0, 64 FFFF"),
+        (0, "mqtt \"\u{10fffe}\"", "64 plane 16, 64 FFFE"),
+        (0, "mqtt \"+#\"", ""),
+        (0, &format!("mqtt \"+{long}\""), "64 U+002B, 64 for 65"),
+        (8, &format!("mqtt \"{long}\""), "65 of 49 bytes, 65 for 66"),
+        (0, &format!("mqtt \"{wide}x\" is"), "65 of 49 bytes, 65 of at most 48 characters, 65 before is"),
+        (0, &format!("mqtt \"{long}b\""), "65 of more"),
+        (0, &format!("mqtt \"{wide}\""), "48 bytes taken, 48 bytes of wide characters taken"),
+        (0, "mqtt \" \u{10000}\u{1fffd}\"", "U+0020 taken, FFFD of another plane taken, 0000 of another plane taken"),
+        (0, "mqtt", "20 at the end"),
+        (0, "mqtt is", "20 at is"),
+        (0, "mqtt (", "20 at another token"),
+        (0, "mqtt \"a\" when lamp", ""),
+        (0, "mqtt \"a\" is", "40 at the last is"),
+        (8, "mqtt \"a\" is \"b\"", "40 before a payload, 40 for 66"),
+        (8, "mqtt \"1\" is 5", "40 before another token"),
+        (0, "at 7:05 on mon when mqtt \"a\"", ""),
+        (8, "mqtt \"a\"", "66 at trigger 1, 66 for accepted, 66 with 8 lent, 66 of the archive call"),
+        (9, "mqtt \"1\" when mqtt \"a\" foo", "66 at trigger 2, 66 for a later fault, 66 with 9 lent, 66 behind a lent one, 66 of the archive call"),
+        (7, "mqtt \"a\" when mqtt \"a\" when mqtt \"b\"", "66 at trigger 3, 66 for accepted, 66 with 7 lent, 66 behind a repeat, 66 of the archive call"),
+        (7, "mqtt \"a\" when mqtt \"a\"", "one byte taken, eight in all, eight in all, none lent twice, eight in all, one named twice"),
+        (7, "mqtt \"a\" when mqtt \"7\"", "one byte taken, eight in all, eight in all, none lent twice, eight in all, one lent named"),
+        (6, "mqtt \"a\"", "one byte taken"),
+        (8, "mqtt \"8\"", "one byte taken, 8 lent, accepted"),
+        (10, "mqtt \"8\"", "one byte taken, 10 lent, accepted"),
+        (10, "http trigger", "10 lent, none named"),
+    ] {
+        let case = Case::new(1, LEAST_WORDS, format!("when {text}"), b"primary,0").with_topics(numbered(lent));
+        assert_eq!(shown("topic ", &case), wanted, "{lent} {text}");
+    }
+}
+
+#[test]
+fn lent_lines_that_decide_are_counted() {
+    let call = |lent: &[u8]| shown("topic ", &Case::new(1, LEAST_WORDS, "when mqtt \"a\"", b"primary,0").with_topics(lent).with_habit(Habit::Rule));
+    let eighth = |line: &[u8]| {
+        let shown = call(&[numbered(7).as_bytes(), b"\n", line].concat());
+        shown.strip_prefix("66 at trigger 1, 66 for accepted, 66 with 8 lent, ").expect("66").strip_suffix("66 of the default call").expect("66").to_string()
+    };
+    assert_eq!(eighth(b"8"), "");
+    assert_eq!(eighth(b"\r"), "66 by a line of CR, 66 by a CR behind a topic, ");
+    assert_eq!(eighth(b"a\r"), "66 by a CR behind a topic, ");
+    assert_eq!(eighth(b"+"), "66 by a forbidden one, ");
+    assert_eq!(eighth(&[b'x'; 60]), "66 by one over 48 bytes, ");
+    assert_eq!(eighth(b"\xff"), "66 by one that is not UTF-8, ");
+    let seven = numbered(7);
+    assert_eq!(call(format!("{seven}\n").as_bytes()), "one byte taken, eight in all, eight in all, none lent twice, eight in all, a last LF");
+    assert_eq!(call(format!("\n{seven}").as_bytes()), "one byte taken, eight in all, eight in all, none lent twice, eight in all, an empty line");
+    assert_eq!(call(format!("1\n{seven}").as_bytes()), "one byte taken, eight in all, eight in all, one lent twice");
+    assert_eq!(call(b"\xff"), "one byte taken, not UTF-8 lent, accepted");
+}
+
+/// The lent topics as a reader would have them that makes something of the lines.
+fn lent_as(case: &Case, make: fn(&[u8]) -> Option<Vec<u8>>) -> String {
+    let lines: Vec<Vec<u8>> = case.topics().split(|&b| b == b'\n').filter_map(make).collect();
+    second::answer(&case.with_topics(lines.join(&b'\n')))
+}
+
+/// Readers that judge or mend lent lines, or drop some, are found, and the case keeps the lines that matter.
+#[test]
+fn what_is_made_of_lent_lines_is_found() {
+    let without_carriage = |case: &Case| lent_as(case, |line| Some(line.strip_suffix(b"\r").unwrap_or(line).to_vec()));
+    let without_forbidden = |case: &Case| lent_as(case, |line| (!line.contains(&b'+')).then(|| line.to_vec()));
+    let without_long = |case: &Case| lent_as(case, |line| (line.len() <= 48).then(|| line.to_vec()));
+    let none = |case: &Case| lent_as(case, |_| None);
+    let faulty: [Reader; 4] = [&without_carriage, &without_forbidden, &without_long, &none];
+    for faulty in faulty {
+        let readers = Readers { second: &second::answer, in_domain: &second::in_domain, supplied: faulty, replay: None };
+        let plan = Plan { make: &generated, count: 30_000, batch: 1_000, threads: 1, progress: false };
+        let Outcome::Different(found) = run(&plan, &readers).unwrap() else { panic!("no difference") };
+        let small = smallest(&found, &readers);
+        assert_eq!(small.other, Other::Supplied);
+        let lines = small.case.topics().split(|&b| b == b'\n').filter(|line| !line.is_empty()).count();
+        assert!((5..=9).contains(&lines) && small.case.text.len() < 60, "{:?}", small.case);
+    }
+}
+
+/// The supplied Rust with a rule set that is empty, and with one whose topics are counted by lines.
+#[test]
+fn the_supplied_rust_needs_its_rule_set() {
+    let empty = |case: &Case| supplied::answer(&case.with_topics([]));
+    let one_more = |case: &Case| {
+        let lent = case.topics();
+        supplied::answer(&if lent.is_empty() { case.clone() } else { case.with_topics([lent, b"\n\x01"].concat()) })
+    };
+    let faulty: [Reader; 2] = [&empty, &one_more];
+    for faulty in faulty {
+        let readers = Readers { second: &second::answer, in_domain: &second::in_domain, supplied: faulty, replay: None };
+        let plan = Plan { make: &generated, count: 30_000, batch: 1_000, threads: 1, progress: false };
+        let Outcome::Different(found) = run(&plan, &readers).unwrap() else { panic!("no difference") };
+        assert_eq!(found.other, Other::Supplied);
+    }
+}
+
+#[test]
+fn shrinking_drops_lent_topics() {
+    let case = Case::new(1, LEAST_WORDS, b"when mqtt \"a\" foo", b"primary,0\n").with_topics(numbered(12));
+    let small = shrink(&case, 10_000, &mut |case| second::answer(case).contains("refused 66"));
+    assert_eq!(small.topics().split(|&b| b == b'\n').filter(|line| !line.is_empty()).count(), 8);
+    assert_eq!(small.text, b"when mqtt\"a\"");
+    let none = shrink(&case, 10_000, &mut |case| second::answer(case).contains("refused 20"));
+    assert!(none.settings.is_none() || none.topics().is_empty(), "{none:?}");
+}
+
+#[test]
+fn the_generators_topics_are_what_they_are_called() {
+    let mut rng = generate::Rng::new(SEED, 1);
+    for _ in 0..20_000 {
+        let topic = generate::topics::any(&mut rng);
+        let text = [b"when mqtt \"", &topic[..], b"\""].concat();
+        let taken = second::answer(&Case::new(1, LEAST_WORDS, text, b"primary,0")).contains("\naccepted 1 0\n");
+        assert_eq!(generate::topics::fits(&topic), taken, "{}", topic.escape_ascii());
     }
 }
 

@@ -7,7 +7,7 @@ use std::collections::HashMap;
 use std::fs::File;
 use std::io::{self, BufReader, BufWriter, Write};
 
-/// Every feature is to be shown by so many cases; one that needs a text of the longest length, by one.
+/// Every feature is to be shown by so many cases; one that needs a text of the longest length or the most lent bytes, by one.
 const AT_LEAST: usize = 2;
 /// A case is left aside if it and its answer have more bytes than this; the landmarks are the large ones.
 const MOST_EACH: usize = 1_500;
@@ -26,7 +26,7 @@ struct Candidate {
 }
 
 fn size(case: &Case, answer: &str) -> usize {
-    case.text.len() + case.sheet.len() + answer.len() + 30
+    case.text.len() + case.sheet.len() + case.topics().len() + answer.len() + 30
 }
 
 /// Where a text or sheet was refused, so that the sample has refusals in many places: the number with the bad line of
@@ -74,7 +74,7 @@ fn candidates(scan: u64, make: &dyn Fn(u64) -> Case, second: Reader) -> Vec<Cand
     let mut smallest: HashMap<(Features, usize), (usize, u64)> = HashMap::new();
     for index in 0..scan {
         let case = make(index);
-        if case.text.len() + case.sheet.len() > MOST_EACH {
+        if case.text.len() + case.sheet.len() + case.topics().len() > MOST_EACH {
             continue;
         }
         let answer = guarded(second, &case);
@@ -162,7 +162,7 @@ pub fn extended(mut cases: Vec<Case>, more: Vec<Case>) -> Vec<Case> {
 
 fn at_least(feature: usize) -> usize {
     let name = feature_name(feature);
-    if name.starts_with("buffer last ") || name == "party 1 first" { 1 } else { AT_LEAST }
+    if name.starts_with("buffer last ") || name == "party 1 first" || name == "topic the most lent bytes" { 1 } else { AT_LEAST }
 }
 
 /// The features that too few of the cases show.

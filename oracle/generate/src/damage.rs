@@ -4,6 +4,7 @@ use crate::durations;
 use crate::grammar::quoted;
 use crate::rng::Rng;
 use crate::spell::Token;
+use crate::topics;
 use crate::vocabulary::{
     BYTES, CHARACTERS, DECIMALS, DURATIONS, ILL_FORMED, INTEGERS, LONG_NAMES, NAMES, SIGNS, SPACES, TIMES, VAR_TEXTS,
     WORDS, WRONG_DURATIONS, WRONG_TIMES,
@@ -20,6 +21,7 @@ pub fn any_token(rng: &mut Rng) -> Token {
         11 if rng.once_in(3) => return durations::any(rng),
         11 => rng.pick(&[DURATIONS, DURATIONS, WRONG_DURATIONS]),
         12 => DECIMALS,
+        13 if rng.once_in(3) => return quoted(&topics::any(rng)),
         13 => return quoted(rng.pick(NAMES)),
         14 => return quoted(rng.pick(&[VAR_TEXTS, LONG_NAMES, &[""]])[0].as_bytes()),
         _ => &["5", "1", "@", "!", "\"", "\"open", "\"\"", "5s", "#c\n", "&&", "'a'", "/", "5.", ".5", "..."],
@@ -47,7 +49,7 @@ pub fn tokens(rng: &mut Rng, tokens: &mut Vec<Token>) {
 fn like(rng: &mut Rng, token: &Token) -> Token {
     let first = token[0];
     let list = if first == b'"' {
-        return quoted(rng.pick(NAMES));
+        return if rng.once_in(3) { quoted(&topics::any(rng)) } else { quoted(rng.pick(NAMES)) };
     } else if first.is_ascii_digit() {
         if token.contains(&b':') {
             rng.pick(&[TIMES, WRONG_TIMES])

@@ -9,6 +9,8 @@ enum Place {
     Text,
     /// A sheet, which is given with this text.
     Sheet(&'static str),
+    /// Lent topics, which are given with this text.
+    Topics(&'static str),
 }
 
 /// One family of sequences. `most` bounds their length, since a wide vocabulary soon gives too many.
@@ -18,6 +20,8 @@ struct Run {
     habit: Habit,
     /// The party and the primary of a `call` line, for texts with the shared sheet.
     call: Option<(u8, u8)>,
+    /// The topics that are lent with texts; with any it is a `call` line.
+    lent: &'static [u8],
     prefix: &'static [u8],
     glue: &'static [u8],
     vocabulary: &'static [&'static [u8]],
@@ -38,6 +42,7 @@ macro_rules! text {
             place: Place::Text,
             habit: $habit,
             call: None,
+            lent: b"",
             prefix: $prefix.as_bytes(),
             glue: b" ",
             vocabulary: $vocabulary,
@@ -53,12 +58,19 @@ macro_rules! sheet {
             place: Place::Sheet($text),
             habit: Habit::Archive,
             call: $call,
+            lent: b"",
             prefix: $prefix.as_bytes(),
             glue: b"",
             vocabulary: $vocabulary,
             suffix: b"",
             most: $most,
         }
+    };
+}
+
+macro_rules! topics {
+    ($habit:expr, $text:expr, $prefix:expr, $most:expr, $vocabulary:expr) => {
+        Run { place: Place::Topics($text), glue: b"", ..text!($habit, $prefix, "", $most, $vocabulary) }
     };
 }
 
@@ -93,6 +105,18 @@ const WIDE: &[&[u8]] = pieces![
 const ARGUMENT_PARTS: &[&[u8]] = pieces!["dev", "inst", "group", "type", "=", ",", "1", "32", "\"a\""];
 const ARGUMENTS: &[&[u8]] = pieces!["dev=64", "dev=\"b\"", "dev=\"\"", "inst=1", "inst=32", "group=2", "group=32", "type=button",
     "type=foo", "adapter=1", "adapter=2", ",", "3", "\"a\"", "foo=1"];
+
+/// Lent topics: five, seven and eight.
+const FIVE: &[u8] = b"1\n2\n3\n4\n5";
+const SEVEN: &[u8] = b"1\n2\n3\n4\n5\n6\n7\n";
+const EIGHT: &[u8] = b"1\n2\n3\n4\n5\n6\n7\n8";
+const TWO_TOPICS: &str = "when mqtt \"a\" when mqtt \"b\"";
+const TOPIC_TRIGGERS: &[&[u8]] = pieces!["when mqtt \"a\"", "when mqtt \"b\"", "when mqtt \"c\"", "when mqtt \"d\"", "when mqtt \"5\"",
+    "when http trigger", "is \"p\"", "if sun is up", "foo"];
+const BEHIND_MQTT: &[&[u8]] = pieces!["\"a\"", "\"7\"", "\"\"", "\"a+\"", "\"aaaaaaaaaaaaaaaaaaaaaaaaaaaaaaaaaaaaaaaaaaaaaaaaa\"", "is", "when",
+    "mqtt", "if", "sun is up", "foo"];
+/// What lent topics are made of.
+const LENT: &[&[u8]] = &[b"a", b"b", b"7", b"\n", b"\r", b"+", b"\xff"];
 
 const RUNS: &[Run] = &[
     text!("", "", 5, pieces!["when", "if", "and", "controller", "starts", "is", "active", "http", "trigger", "every", "5s",
@@ -130,13 +154,13 @@ const RUNS: &[Run] = &[
     text!("when controller starts if input(1,2)", "", 5, pieces!["is", "occupied", ".", "light", "above", "below", "5", "-", "time",
         "now", "and"]),
     text!("when controller starts if last_fired(", "", 5, pieces!["\"r\"", "\"\"", ")", "older", "than", "5s", "5", "1.5"]),
-    Run { place: Place::Text, habit: Habit::Archive, call: None, prefix: b"", glue: b"", suffix: b"", most: 5,
+    Run { place: Place::Text, habit: Habit::Archive, call: None, lent: b"", prefix: b"", glue: b"", suffix: b"", most: 5,
         vocabulary: pieces![
         "0", "5", ".", ":", "s", "m", "x", "\"", "#", "!", "=", ">", "_", "\n", "@", "\u{e9}"] },
-    Run { place: Place::Text, habit: Habit::Archive, call: None, prefix: b"when every ", glue: b"", suffix: b"", most: 5,
+    Run { place: Place::Text, habit: Habit::Archive, call: None, lent: b"", prefix: b"when every ", glue: b"", suffix: b"", most: 5,
         vocabulary: pieces![
         "0", "1", ".", "4294967", "295", "0000000000", "00000000000000000000", "ms", "s", "h"] },
-    Run { place: Place::Text, habit: Habit::Archive, call: None, prefix: b"\"\xc3\xa9", glue: b"", suffix: b"\" @", most: 4,
+    Run { place: Place::Text, habit: Habit::Archive, call: None, lent: b"", prefix: b"\"\xc3\xa9", glue: b"", suffix: b"\" @", most: 4,
         vocabulary: &[
         b"\x7f", b"\x80", b"\x8f", b"\x90", b"\x9f", b"\xa0", b"\xbf", b"\xc1", b"\xc2", b"\xe0", b"\xe1", b"\xed", b"\xef",
         b"\xf0", b"\xf4", b"\xf5"] },
@@ -152,6 +176,23 @@ const RUNS: &[Run] = &[
     Run { call: Some((7, 2)), ..text!("when", "", 3, pieces!["scene(3) recalled", "input(group=4) is press", "lamp(5) turns on when",
         "hcl override starts for broadcast", "scene(3, adapter=0) recalled", "input(group=4, adapter=1) is press",
         "if hcl is enabled for broadcast"]) },
+    Run { lent: EIGHT, ..text!("when mqtt", "", 5, BEHIND_MQTT) },
+    Run { lent: SEVEN, ..text!(Habit::Rule, "when mqtt \"a\"", "", 4, BEHIND_MQTT) },
+    Run { lent: SEVEN, ..text!("", "", 5, TOPIC_TRIGGERS) },
+    Run { lent: FIVE, ..text!(Habit::Rule, "", "", 5, TOPIC_TRIGGERS) },
+    text!("when mqtt", "", 4, BEHIND_MQTT),
+    Run { glue: b"", ..text!("when mqtt \"", "\"", 2, pieces![
+        "\u{0}", "\u{1f}", " ", "\"", "#", "$", "*", "+", ",", "~", "\u{7f}", "\u{80}", "\u{9f}", "\u{a0}", "\u{ad}", "\u{2028}",
+        "\u{fdcf}", "\u{fdd0}", "\u{fdef}", "\u{fdf0}", "\u{feff}", "\u{fffd}", "\u{fffe}", "\u{ffff}", "\u{10000}", "\u{1fdd0}",
+        "\u{1fffd}", "\u{1fffe}", "\u{1ffff}", "\u{20000}", "\u{2fffe}", "\u{3ffff}", "\u{4fffe}", "\u{5ffff}", "\u{6fffe}",
+        "\u{7ffff}", "\u{8fffe}", "\u{9ffff}", "\u{afffe}", "\u{bffff}", "\u{cfffe}", "\u{dffff}", "\u{efffe}", "\u{f0000}",
+        "\u{ffffd}", "\u{ffffe}", "\u{fffff}", "\u{100000}", "\u{10fffd}", "\u{10fffe}", "\u{10ffff}"]) },
+    Run { glue: b"", ..text!("when mqtt \"", "\"", 5, pieces!["x", "\u{e9}", "aaaaaaaaaaaaaaaaaaaaaaaaaaaaaaaaaaaaaaaaaaaaaa",
+        "\u{e9}\u{e9}\u{e9}\u{e9}\u{e9}\u{e9}\u{e9}\u{e9}\u{e9}\u{e9}\u{e9}\u{e9}\u{e9}\u{e9}\u{e9}\u{e9}\u{e9}\u{e9}\u{e9}\u{e9}\u{e9}\u{e9}",
+        "+"]) },
+    topics!(Habit::Archive, TWO_TOPICS, "1\n2\n3\n4\n5\n6\n", 6, LENT),
+    topics!(Habit::Rule, TWO_TOPICS, "", 5, LENT),
+    topics!(Habit::Archive, "when mqtt \"7\" when mqtt \"a\" foo", "1\n2\n3\n4\n5\n6\n7", 5, LENT),
 ];
 
 fn size(run: &Run, length: usize) -> u64 {
@@ -181,20 +222,28 @@ fn sequence(run: &Run, length: usize, mut index: u64) -> Vec<u8> {
     out
 }
 
+/// The case whose text, sheet or lent topics the pieces of a run made.
+fn case_of(run: &Run, index: u64, made: Vec<u8>) -> Case {
+    let sheet = if run.call.is_some() { SHARED } else { SHEET };
+    let (text, sheet, lent) = match run.place {
+        Place::Text => (made, sheet.to_vec(), run.lent.to_vec()),
+        Place::Sheet(text) => (text.into(), made, run.lent.to_vec()),
+        Place::Topics(text) => (text.into(), sheet.to_vec(), made),
+    };
+    let mut case = Case::new(index, LEAST_WORDS, text, sheet).with_habit(run.habit);
+    if let Some((party, primary)) = run.call {
+        case = case.with_party(party, primary);
+    }
+    if lent.is_empty() { case } else { case.with_topics(lent) }
+}
+
 /// The case numbered `index`, below `exhaustive_count(length)`.
 pub fn exhaustive_case(length: usize, index: u64) -> Case {
     let mut left = index;
     for run in RUNS {
         let here = size(run, length);
         if left < here {
-            let made = sequence(run, length, left);
-            let (text, sheet) = match (run.place, run.call) {
-                (Place::Text, None) => (made, SHEET.to_vec()),
-                (Place::Text, Some(_)) => (made, SHARED.to_vec()),
-                (Place::Sheet(text), _) => (text.as_bytes().to_vec(), made),
-            };
-            let case = Case::new(index, LEAST_WORDS, text, sheet).with_habit(run.habit);
-            return run.call.map_or_else(|| case.clone(), |(party, primary)| case.with_party(party, primary));
+            return case_of(run, index, sequence(run, length, left));
         }
         left -= here;
     }

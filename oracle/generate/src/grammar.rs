@@ -1,4 +1,4 @@
-//! Random walks over document 01's grammar.
+//! Random walks over document 01's grammar, with what document 02 has added to it.
 //!
 //! A careful walk writes only what the grammar has, with numbers in range and adapters that are listed; whether its
 //! names have one row in scope is left to chance, and its input arguments may repeat (repeats.rs). A walk that slips
@@ -58,6 +58,8 @@ const TRIGGERS: &[fn(&mut Walk)] = &[
     |w| w.say("controller starts"),
     |w| w.say("controller becomes active"),
     |w| w.say("http trigger"),
+    |w| w.mqtt(),
+    |w| w.mqtt(),
     |w| { w.say("every"); w.period() },
     |w| w.at_time(),
     |w| { w.say("at"); w.solar(); w.odd_tail() },
@@ -167,7 +169,7 @@ impl<'a> Walk<'a> {
 
     pub fn trigger(&mut self) {
         if self.slip() {
-            let odd = self.rng.pick(&["mqtt", "mqtt \"t\"", "when", "day", "foo", "at on", "input"]);
+            let odd = self.rng.pick(&["mqtt", "mqtt \"t\" is", "when", "day", "foo", "at on", "input"]);
             return self.say(odd);
         }
         let form = self.rng.pick(TRIGGERS);

@@ -14,6 +14,7 @@ mod requests;
 mod rng;
 mod sheet;
 mod spell;
+pub mod topics;
 pub mod vocabulary;
 
 #[cfg(test)]
@@ -33,14 +34,17 @@ use spell::{spell, Token};
 /// The longest text that it takes, in bytes.
 const LONGEST_TEXT: usize = 16_384;
 
-/// The case `index` of the sequence that `seed` gives: a default call, or an archive call, on one line or the other. The
-/// party and the primary of a `call` line are chosen for its sheet; the sheet of a `case` line seldom has party rows.
+/// The case `index` of the sequence that `seed` gives: a default call, or an archive call, on one line or the other. The party and
+/// the primary of a `call` line are chosen for its sheet, and it often lends topics; the sheet of a `case` line seldom has party rows.
 pub fn case(seed: u64, index: u64) -> Case {
     let mut rng = Rng::new(seed, index);
     let habit = rng.pick(&[None, Some(Habit::Archive), Some(Habit::Rule), Some(Habit::Rule)]);
     let mut sheet = sheet::good(&mut rng, if habit.is_some() { 2 } else { 6 });
     let settings = habit.map(|habit| parties::settings(&mut rng, habit, &sheet));
-    sheet.party = settings.as_ref().map_or(0, |settings| settings.party);
+    if let Some(settings) = &settings {
+        sheet.party = settings.party;
+        sheet.lend(&settings.topics);
+    }
     let mut text = text(&mut rng, &sheet);
     spoil_sheet(&mut rng, &mut sheet);
     let mut words = words(&mut rng);
@@ -107,7 +111,8 @@ fn text(rng: &mut Rng, sheet: &Sheet) -> Vec<u8> {
         12..=69 => damaged_tokens(rng, sheet),
         70..=99 => damaged_bytes(rng, sheet),
         100..=105 => with_ill_formed(rng, sheet),
-        106..=121 => several_faults(rng, sheet),
+        106..=117 => several_faults(rng, sheet),
+        118..=129 => about_topics(rng, sheet),
         sort => {
             let tokens = walk(rng, sheet, if sort < 156 { SELDOM } else { NEVER });
             spell(rng, &tokens)
@@ -136,6 +141,18 @@ fn several_faults(rng: &mut Rng, sheet: &Sheet) -> Vec<u8> {
     walk.short_text();
     let mut tokens = walk.tokens();
     if rng.once_in(2) {
+        damage::tokens(rng, &mut tokens);
+    }
+    spell(rng, &tokens)
+}
+
+/// A text about topics, their count or one of them.
+fn about_topics(rng: &mut Rng, sheet: &Sheet) -> Vec<u8> {
+    let (one, slips) = (rng.once_in(3), rng.pick(&[NEVER, NEVER, NEVER, SELDOM]));
+    let mut walk = Walk::new(rng, sheet, slips);
+    if one { walk.topic_text() } else { walk.topics_text() }
+    let mut tokens = walk.tokens();
+    if rng.once_in(12) {
         damage::tokens(rng, &mut tokens);
     }
     spell(rng, &tokens)

@@ -3,6 +3,7 @@
 use crate::grammar::{quoted, Walk};
 use crate::rng::Rng;
 use crate::sheet::{Kind, Row, Sheet};
+use crate::topics;
 use cases::{Habit, Settings};
 
 /// Parties beside party 0.
@@ -64,7 +65,7 @@ pub fn settings(rng: &mut Rng, habit: Habit, sheet: &Sheet) -> Settings {
         4..=11 if sheet.party_of(sheet.primary) == party => (party, sheet.primary),
         _ => (party, adapter),
     };
-    Settings { habit, party, primary, topics: Vec::new() }
+    Settings { habit, party, primary, topics: topics::lent(rng) }
 }
 
 impl Walk<'_> {

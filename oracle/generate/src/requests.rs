@@ -8,6 +8,7 @@ pub fn requests() -> Vec<Case> {
     cases.extend(records());
     cases.extend(repeats());
     cases.extend(parties());
+    cases.extend(topics());
     cases
 }
 
@@ -271,4 +272,116 @@ fn most_party_rows() -> Vec<Case> {
         call(sheet([&listed, last, &(parties.clone() + "party,3,0\n")]), 0, "when http trigger"),
         call(sheet([&parties, &listed, &(last.to_string() + "party,3,9")]), 0, "when http trigger"),
     ]
+}
+
+/// So many lent topics: `1`, `2` and so on, one a line.
+fn numbered(count: usize) -> String {
+    (1..=count).map(|topic| topic.to_string()).collect::<Vec<_>>().join("\n")
+}
+
+fn lending(lent: &[u8], text: &str) -> Case {
+    Case::new(0, LEAST_WORDS, text, SHEET).with_habit(Habit::Rule).with_topics(lent)
+}
+
+/// §12: topics of every kind, what follows them, and their count with lent ones.
+fn topics() -> Vec<Case> {
+    let mut cases = single_topics();
+    cases.extend(behind_topics());
+    cases.extend(counted_topics());
+    cases.extend(lent_lines());
+    cases.extend(topics_of_other_calls());
+    cases
+}
+
+/// One topic: each class's ends and what stands beside them, the ends of all planes, and lengths around 48 bytes.
+fn single_topics() -> Vec<Case> {
+    let mut topics: Vec<String> = [
+        "", "a", "shop/till 4/closing", "+", "#", "a+", "+/b", "a/#", "\u{0}", "a\u{0}", "\t", "\r", "a\r", "\u{1f}", "a\u{1f}", "\u{7f}",
+        "\u{7f}a", "\u{80}", "\u{85}", "\u{9f}", "a\u{9f}", "\u{fdd0}", "a\u{fdd0}", "\u{fdde}", "\u{fdef}", "\u{fdef}b", "\u{fddf}/", " ", "a ",
+        "~", "a~", "\u{a0}", "\u{a0}b", "\u{ad}", "\u{2028}", "\u{feff}", "\u{fdcf}", "a\u{fdcf}", "\u{fdf0}", "\u{fdf0}a", "\u{fffd}", "b\u{fffd}",
+        "\u{10000}", "\u{1fdd0}", "\u{ff0b}", "+#", "$SYS", "*", "\u{e9}",
+    ].map(String::from).to_vec();
+    let plane = |plane: u32, offset: u32| char::from_u32(plane * 0x1_0000 + offset).map(String::from);
+    topics.extend((0..17).flat_map(|n| [plane(n, 0xFFFE), plane(n, 0xFFFF)]).flatten());
+    topics.extend((1..17).filter_map(|n| plane(n, if n % 2 == 0 { 0 } else { 0xFFFD })));
+    let (a, wide) = (|count: usize| "a".repeat(count), "\u{e9}".repeat(24));
+    topics.extend([
+        a(47), a(48), a(49), a(50), a(300), wide.clone(), format!("{wide}x"), format!("x{wide}"), "\u{1f4a1}".repeat(12),
+        "\u{1f4a1}".repeat(12) + "x", "\u{65e5}".repeat(16), a(60) + "+", format!("#{}", a(48)), a(47) + "+", a(48) + "\u{fffe}",
+    ]);
+    topics.iter().map(|topic| lending(b"", &format!("when mqtt \"{topic}\""))).collect()
+}
+
+/// What stands in the place of a topic and behind one, without lent topics and with eight.
+fn behind_topics() -> Vec<Case> {
+    let long = "a".repeat(49);
+    let long = [format!("mqtt \"{long}\" is \"b\""), format!("mqtt \"{long}\" is"), format!("mqtt \"{long}\"")];
+    let texts = [
+        "mqtt", "mqtt # \"a\"", "mqtt a", "mqtt when", "mqtt is", "mqtt is \"a\"", "mqtt 5", "mqtt(\"a\")", "mqtt 7:05", "mqtt . \"a\"", "Mqtt \"a\"",
+        "mqtt \"a", "mqtt \"a\" is", "mqtt \"a\" is \"b\"", "mqtt \"a\" is \"\"", "mqtt \"a\" is foo", "mqtt \"a\" is 5", "mqtt \"a\"\n is # c",
+        "mqtt \"1\" is \"b\"", "mqtt \"1\" is", "mqtt \"\" is", "mqtt \"a+\" is \"b\"", "mqtt \"\"", "mqtt \"+\" foo", "mqtt \"a\" foo", "mqtt \"1\" foo",
+        "mqtt \"a\" \"b\"", "mqtt \"a\" is @", "mqtt \"a\" if lamp(", "mqtt \"1\" if lamp(", "mqtt \"a\" if sun is up", "mqtt \"1\" if sun is up",
+        "mqtt \"1\" when mqtt \"a\" is \"b\"", "mqtt \"a\" when mqtt \"b\" is \"c\"", "mqtt \"a\" when mqtt \"\"", "mqtt \"a\" when every 5ms",
+        "every 5ms when mqtt \"a\"", "http trigger if mqtt \"a\"", "http trigger when http trigger when http trigger when mqtt \"a\"",
+        "http trigger when http trigger when http trigger when http trigger when mqtt \"a\"", "http trigger if mqtt", "mqtt \"a\" mqtt \"b\"",
+    ];
+    let texts = texts.iter().map(|text| text.to_string()).chain(long);
+    texts.flat_map(|text| ["".to_string(), numbered(8)].map(|lent| lending(lent.as_bytes(), &format!("when {text}")))).collect()
+}
+
+/// The topics of up to four triggers, with five to ten lent ones and with none; the letters are not lent, digits are.
+fn counted_topics() -> Vec<Case> {
+    let texts = [
+        "a", "1", "1 a", "a b", "a a b", "a b a", "a a a a", "a b c d", "d c b a", "1 a b c", "a 1 2 3", "1 2 3 a", "1 2 3 4", "a b c c",
+    ];
+    let written = |topics: &str| topics.split(' ').map(|topic| format!("when mqtt \"{topic}\"")).collect::<Vec<_>>().join(" ");
+    let lent = |count: usize| texts.map(|topics| lending(numbered(count).as_bytes(), &written(topics)));
+    [0, 5, 6, 7, 8, 9, 10].into_iter().flat_map(lent).collect()
+}
+
+/// Lent bytes with repeats, empty lines, a last LF, CR, and lines that no text could name.
+fn lent_lines() -> Vec<Case> {
+    let long = "x".repeat(60);
+    let seven = numbered(7);
+    let mut lists: Vec<Vec<u8>> = [
+        "", "\n", "\n\n\n", "1\n2\n3\n4\n5\n6\n7\n", "\n1\n2\n3\n4\n5\n6\n7", "1\n\n2\n\n3\n4\n5\n6\n7", "1\n2\n3\n4\n5\n6\n7\n\n\n",
+        "1\n1\n2\n3\n4\n5\n6\n7", "1\n2\n3\n4\n5\n6\n7\n1\n2\n3\n4\n5\n6\n7\n", "1\n2\n3\n4\n5\n6\n7\n8\n8\n", "1\n2\n3\n4\n5\n6\n7\n1\n7\n",
+        "a\n2\n3\n4\n5\n6\n7\n8\n9", "1\r\n2\r\n3\r\n4\r\n5\r\n6\r\n7\r\n8\r\n", "1\r\n2\r\n3\r\n4\r\n5\r\n6\r\n7\r\n", "\r\n\r\n1\n2\n3\n4\n5\n6",
+        "11\n12\n13\n14\n15\n16\n17\n18", "A\n2\n3\n4\n5\n6\n7\n8",
+    ].map(|lent| lent.as_bytes().to_vec()).to_vec();
+    let odd: [&[u8]; 14] = [
+        b"\r", b"a\r", b"1\r", b"+", b"a#", b" ", b"\0", "\u{85}".as_bytes(), "\u{10ffff}".as_bytes(), long.as_bytes(), b"\xff", b"a\xc3",
+        b"\"a\"", b"\xed\xa0\x80",
+    ];
+    lists.extend(odd.iter().flat_map(|&line| [[seven.as_bytes(), b"\n", line].concat(), [line, b"\n", seven.as_bytes(), b"\n"].concat()]));
+    lists.push(numbered(400).into_bytes());
+    let texts = ["when mqtt \"a\"", "when mqtt \"1\" when mqtt \"a\" when mqtt \"a\" when mqtt \"b\""];
+    let mut cases: Vec<Case> = lists.iter().flat_map(|lent| texts.map(|text| lending(lent, text))).collect();
+    cases.extend(["+", "a\r", "\u{fdd0}", &long].map(|topic| {
+        lending(format!("{topic}\n1\n2").as_bytes(), &format!("when mqtt \"{topic}\""))
+    }));
+    cases.extend([9, 10, 11].map(|count| lending(numbered(count).as_bytes(), "when http trigger")));
+    let raw: [(&[u8], &str); 3] = [(b"\xff\n1\n\x80\n2", "1"), (b"\xc3\xa9\n\xc3", "\u{e9}"), (b"\xc3\n\xa9", "\u{e9}")];
+    cases.extend(raw.map(|(lent, topic)| lending(lent, &format!("when mqtt \"{topic}\""))));
+    // As many bytes as a call of the replay format lends, of eight topics.
+    let most: Vec<u8> = numbered(8).into_bytes().into_iter().chain(*b"\n").cycle().take(cases::MOST_BYTES).collect();
+    cases.push(lending(&most, "when mqtt \"8\" when mqtt \"a\""));
+    cases
+}
+
+/// Topics do not hang on the habit, the party or the primary, and the first questions come before them.
+fn topics_of_other_calls() -> Vec<Case> {
+    let texts = [
+        "when mqtt \"a\"", "when mqtt \"7\" when mqtt \"a\" foo", "when mqtt \"7\"", "when mqtt \"\"", "when mqtt \"a\" is \"b\"",
+        "when mqtt \"7\" when input(dev=1, dev=2, inst=3) is press", "when input(dev=1, dev=2, inst=3) is press when mqtt \"a\"",
+    ];
+    let call = |text: &str, sheet: &[u8]| Case::new(0, LEAST_WORDS, text, sheet).with_topics(numbered(8));
+    let mut cases: Vec<Case> = texts.iter().flat_map(|text| [call(text, SHEET), call(text, SHARED).with_habit(Habit::Rule).with_party(7, 1)]).collect();
+    cases.extend([
+        call("when mqtt \"a\"", SHARED).with_party(0, 1), call("when mqtt \"a\"", b"primary"), Case { words: 0, ..call("when mqtt \"a\"", SHEET) },
+        Case { text: b"when mqtt \"a\xff\"".to_vec(), ..call("", SHEET) },
+    ]);
+    // A `case` line lends none.
+    cases.extend(["when mqtt \"a\" when mqtt \"b\"", "when mqtt \"a\" is", "when mqtt \"a+\"", "when mqtt"].map(|text| case(LEAST_WORDS, text.to_string())));
+    cases
 }

@@ -38,7 +38,7 @@ pub struct Row {
     pub name: &'static [u8],
 }
 
-/// A sheet's bytes, and what it says, for texts that refer to it.
+/// A sheet's bytes, and what it says, for texts that refer to it; with it what else the call gives to which such a text belongs.
 #[derive(Debug, Default)]
 pub struct Sheet {
     pub bytes: Vec<u8>,
@@ -51,6 +51,8 @@ pub struct Sheet {
     pub adapters: Vec<u8>,
     /// The party of the call that texts are for.
     pub party: u8,
+    /// The topics that the call lends, as far as they can stand in a string.
+    pub topics: Vec<Vec<u8>>,
 }
 
 /// The bounds of document 01 for a sheet.
@@ -89,6 +91,13 @@ impl Sheet {
                 self.rows.push(row);
             }
         }
+    }
+
+    /// Takes topics that a text may name from what the call lends; of many the last ones.
+    pub fn lend(&mut self, topics: &[u8]) {
+        let lines = topics.split(|&b| b == b'\n').rev().filter(|line| !line.is_empty() && !line.contains(&b'"'));
+        let in_texts = lines.filter(|line| std::str::from_utf8(line).is_ok());
+        self.topics = in_texts.take(16).map(<[u8]>::to_vec).collect();
     }
 
     pub fn party_of(&self, adapter: u8) -> u8 {

@@ -1,5 +1,5 @@
 use super::*;
-use crate::vocabulary::{CHARACTERS, DECIMALS, DURATIONS, ILL_FORMED, SIGNS, SPACES, TIMES, WORDS};
+use crate::vocabulary::{BESIDE_FORBIDDEN, CHARACTERS, DECIMALS, DURATIONS, FORBIDDEN, ILL_FORMED, SIGNS, SPACES, TIMES, TOPICS, WORDS};
 
 const SEED: u64 = 7;
 const MANY: u64 = 60_000;
@@ -38,6 +38,7 @@ fn every_case_fits_the_replay_format() {
     for index in 0..MANY {
         let case = case(SEED, index);
         assert!(case.words <= MOST_WORDS && case.text.len() <= MOST_BYTES && case.sheet.len() <= MOST_BYTES);
+        assert!(case.topics().len() <= MOST_BYTES);
         assert_eq!(case.id, index);
     }
 }
@@ -59,6 +60,55 @@ fn bounds_are_met_and_passed() {
     let bounds: Vec<String> = ["15", "16", "31", "32", "63", "64", "254", "255", "1023", "1024", "999ms", "1000ms", "1000000001"]
         .map(String::from).to_vec();
     assert_eq!(never(MANY, parts(&[&bounds])), Vec::<String>::new());
+}
+
+#[test]
+fn every_forbidden_character_and_those_beside_stand_in_topics() {
+    let planes = (1..17).flat_map(|plane| [0xFFFD, 0xFFFE, 0xFFFF].map(|offset| plane * 0x1_0000 + offset)).filter_map(char::from_u32);
+    let alone = |topic: String| format!("\"{topic}\"");
+    let characters = FORBIDDEN.iter().chain(BESIDE_FORBIDDEN).map(char::to_string).map(alone);
+    let topics = TOPICS.iter().map(|topic| alone(topic.to_string()));
+    let all: Vec<String> = characters.chain(topics).chain(planes.map(String::from)).collect();
+    assert_eq!(never(MANY, parts(&[&all])), Vec::<String>::new());
+}
+
+#[test]
+fn topics_that_fit_are_known() {
+    assert!(TOPICS.iter().all(|topic| topics::fits(topic.as_bytes())));
+    assert!(FORBIDDEN.iter().all(|c| !topics::fits(c.to_string().as_bytes())));
+    assert!(BESIDE_FORBIDDEN.iter().all(|c| topics::fits(c.to_string().as_bytes())));
+    for (topic, fits) in [("", false), ("\"", false), (&"a".repeat(48), true), (&"a".repeat(49), false), (&"\u{e9}".repeat(24), true)] {
+        assert_eq!(topics::fits(topic.as_bytes()), fits, "{topic}");
+    }
+    let mut rng = Rng::new(SEED, 0);
+    let lengths: Vec<usize> = (0..5_000).map(|_| topics::any(&mut rng).len()).collect();
+    assert!([0, 1, 47, 48, 49, 50].iter().all(|length| lengths.contains(length)));
+}
+
+#[test]
+fn lent_topics_of_every_sort_come_up() {
+    let lent: Vec<Vec<u8>> = (0..10_000).map(|index| case(SEED, index).topics().to_vec()).collect();
+    let count = |sort: &dyn Fn(&[u8]) -> bool| lent.iter().filter(|topics| sort(topics)).count();
+    let lines = |topics: &[u8]| topics.split(|&b| b == b'\n').filter(|line| !line.is_empty()).map(<[u8]>::to_vec).collect::<Vec<_>>();
+    let different = |topics: &[u8]| lines(topics).into_iter().collect::<std::collections::BTreeSet<_>>().len();
+    for number in 0..=10 {
+        assert!(count(&|topics| different(topics) == number) > 150, "{number}");
+    }
+    assert!(count(&|topics| lines(topics).len() > different(topics)) > 1_000);
+    assert!(count(&|topics| contains(topics, b"\n\n")) > 500);
+    assert!(count(&|topics| topics.ends_with(b"\n")) > 1_000);
+    assert!(count(&|topics| contains(topics, b"\r\n")) > 200);
+    assert!(count(&|topics| std::str::from_utf8(topics).is_err()) > 200);
+    assert!(count(&|topics| lines(topics).iter().any(|line| line.len() > 48)) > 200);
+    assert!(count(&|topics| topics.len() == MOST_BYTES) > 2);
+}
+
+#[test]
+fn calls_name_topics_that_they_lend() {
+    let named = |case: &Case| case.topics().split(|&b| b == b'\n').any(|line| line.len() > 1 && contains(&case.text, &grammar::quoted(line)));
+    let cases: Vec<Case> = (0..10_000).map(|index| case(SEED, index)).filter(|case| contains(&case.text, b"mqtt")).collect();
+    assert!(cases.len() > 1_000 && cases.iter().filter(|case| named(case)).count() > 100, "{}", cases.len());
+    assert!(cases.iter().any(|case| case.settings.is_none()));
 }
 
 #[test]
@@ -155,7 +205,7 @@ fn a_sheet_beside_agrees_for_the_party_and_is_another_sheet() {
     for case in (0..6_000).map(|index| case(SEED, index)).filter(|case| well_formed(&case.sheet)) {
         let beside = beside(&case);
         assert!(well_formed(&beside.sheet), "{}", case.id);
-        assert_eq!((beside.party(), beside.primary(), beside.habit()), (case.party(), case.primary(), case.habit()));
+        assert_eq!((beside.party(), beside.primary(), beside.habit(), beside.topics()), (case.party(), case.primary(), case.habit(), case.topics()));
         assert_eq!((&beside.text, beside.words, beside.id), (&case.text, case.words, case.id));
         if case.sheet.len() < 1_000 {
             let view = seen(&case.sheet, case.party());
@@ -192,14 +242,17 @@ fn most_sheets_are_good_and_most_texts_short() {
 #[test]
 fn the_sequences_differ_and_hold_whole_forms() {
     for length in 0..=2 {
-        let mut seen: Vec<(cases::Habit, u8, Vec<u8>, Vec<u8>)> =
-            exhaustive(length).map(|case| (case.habit(), case.party(), case.text, case.sheet)).collect();
+        let mut seen: Vec<(cases::Habit, u8, Vec<u8>, Vec<u8>, Vec<u8>)> =
+            exhaustive(length).map(|case| (case.habit(), case.party(), case.topics().to_vec(), case.text, case.sheet)).collect();
         assert_eq!(seen.len() as u64, exhaustive_count(length));
         seen.sort();
         seen.dedup();
         assert!(seen.len() as u64 > exhaustive_count(length) * 3 / 4, "{length}: {}", seen.len());
     }
-    let whole: [&[u8]; 3] = [b"when every 5s", b"when controller starts if sun is up", b"when lamp( \"b\" ) turns on"];
+    let whole: [&[u8]; 5] = [
+        b"when every 5s", b"when controller starts if sun is up", b"when lamp( \"b\" ) turns on", b"when mqtt \"a\" is",
+        b"when mqtt \"a\" when mqtt \"5\" foo",
+    ];
     for text in whole {
         assert!((0..=3).any(|length| exhaustive(length).any(|case| case.text == text)), "{}", text.escape_ascii());
     }

@@ -90,6 +90,32 @@ pub const VAR_TEXTS: &[&str] = &[
 ];
 pub const LONG_VAR_TEXTS: &[&str] = &["aaaaaaaaaaaaaaaaa", "a\u{1f4a1}\u{1f4a1}\u{1f4a1}\u{1f4a1}", "12345678123456789012"];
 
+/// Topics that a text may have; some differ in a byte, a case or a blank.
+pub const TOPICS: &[&str] = &[
+    "a", "b", "c", "d", "e", "f", "g", "h", "i", "j", "k", "l", "A", "a ", " a", "ab", "a/b", "/", "$SYS", "*", "mqtt", "is", "\u{e9}",
+    "e\u{301}", "shop/tills/closing",
+];
+
+/// Characters that no topic has: the ends of the classes and some between; of the planes' ends those of the first.
+pub const FORBIDDEN: &[char] = &[
+    '+', '#', '\u{0}', '\u{1}', '\u{9}', '\u{d}', '\u{1e}', '\u{1f}', '\u{7f}', '\u{80}', '\u{85}', '\u{9e}', '\u{9f}', '\u{fdd0}',
+    '\u{fdd1}', '\u{fde0}', '\u{fdee}', '\u{fdef}', '\u{fffe}', '\u{ffff}',
+];
+
+/// Characters beside those, and some that look like them.
+pub const BESIDE_FORBIDDEN: &[char] = &[
+    ' ', '!', '$', '*', ',', '~', '}', '\u{a0}', '\u{a1}', '\u{ad}', '\u{600}', '\u{200b}', '\u{2028}', '\u{feff}', '\u{fdcf}', '\u{fdf0}',
+    '\u{fffc}', '\u{fffd}', '\u{10000}', '\u{d7ff}', '\u{e000}', '\u{ff0b}',
+];
+
+/// Lent lines that no text could name, or that look like another.
+pub const LENT_ODDITIES: &[&[u8]] = &[
+    b"\r", b"a\r", b"b\r", b"\r\r", b"+", b"a+", b"#", b"\0", b"\t", b"\x7f", b"\"", b"\"a\"", "\u{85}".as_bytes(), "\u{fdd0}".as_bytes(),
+    "\u{10ffff}".as_bytes(), b"\xff", b"a\xc3", b"\x80", b"\xed\xa0\x80", b"\xc0\xaf",
+    b"aaaaaaaaaaaaaaaaaaaaaaaaaaaaaaaaaaaaaaaaaaaaaaaaa",
+    b"aaaaaaaaaaaaaaaaaaaaaaaaaaaaaaaaaaaaaaaaaaaaaaaaaaaaaaaaaaaa",
+];
+
 /// The 25 characters of White_Space.
 pub const SPACES: &[char] = &[
     '\u{9}', '\u{a}', '\u{b}', '\u{c}', '\u{d}', '\u{20}', '\u{85}', '\u{a0}', '\u{1680}', '\u{2000}', '\u{2001}',

@@ -1,4 +1,4 @@
-//! Rules and sets of them. The reader is given an empty set; no rule is ever built.
+//! Rules and sets of them. The reader is given a set whose rules have no more than a trigger `mqtt` each.
 
 use crate::action::Action;
 use crate::condition::Condition;

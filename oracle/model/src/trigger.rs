@@ -90,9 +90,15 @@ impl Trigger {
     }
 }
 
-/// Asked only about a trigger `mqtt`, which is left out: stops the run.
-pub fn distinct_mqtt_topics<'a>(_triggers: impl IntoIterator<Item = &'a Trigger>) -> Vec<&'a str> {
-    panic!("the supplied Rust went on into a left-out form: the trigger mqtt")
+/// The different topics that the triggers name, by their bytes.
+pub fn distinct_mqtt_topics<'a>(triggers: impl IntoIterator<Item = &'a Trigger>) -> Vec<&'a str> {
+    let mut topics = Vec::new();
+    for topic in triggers.into_iter().filter_map(Trigger::mqtt_topic) {
+        if !topics.contains(&topic) {
+            topics.push(topic);
+        }
+    }
+    topics
 }
 
 #[derive(Debug, Clone, Copy, PartialEq, Eq)]

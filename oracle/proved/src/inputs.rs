@@ -1,16 +1,13 @@
 //! The rules and sheets that the speed of whole calls is measured on, and what both readers say of them.
 
-use crate::Shared;
-use cases::{own_primary, Case, RECORD};
+use crate::Given;
+use cases::{own_primary, Case, MOST_BYTES, RECORD};
 
-/// A rule text and a sheet with the party and the primary of the call, and the name that the table gives them.
+/// A call, always the archive loader's, and the name that the table gives it.
 #[derive(Debug)]
 pub struct Input {
     pub name: &'static str,
-    pub text: String,
-    pub sheet: String,
-    pub party: u8,
-    pub primary: u8,
+    pub case: Case,
 }
 
 pub const WORDS: usize = cases::LEAST_WORDS;
@@ -56,6 +53,16 @@ when device(\"Gateway\") comes online
 if hcl is enabled for group(\"Cold aisle\")
 and lamp(\"Cold aisle left\").cct >= lamp(\"Cold aisle right\").cct + 200
 and device(\"Gateway\") is online
+";
+
+const TILLS: &str = "# Closing, as the till systems announce it.
+when mqtt \"branch/0417/tills/1/closing/announced\"
+when mqtt \"branch/0417/tills/4/closing/announced\"
+when mqtt \"branch/0417/tills/7/closing/announced\"
+when mqtt \"branch/0417/tills/8/closing/announced\"
+if time in sunset - 30m..23:45
+and group(\"Sales floor\") any_on
+and rule(\"Stocktaking\") is enabled
 ";
 
 const COMMENT: &str = "# the night crew may still be in the aisles, so that the lights stay on\n";
@@ -134,6 +141,13 @@ fn shared() -> String {
     sheet
 }
 
+/// The eight topics of the tills, over and over, in as many bytes as the replay format lends.
+fn lent() -> Vec<u8> {
+    let topics = (1..=8).cycle().map(|till| format!("branch/0417/tills/{till}/closing/announced\n"));
+    let most = topics.scan(0, |bytes, topic| { *bytes += topic.len(); (*bytes <= MOST_BYTES).then_some(topic) });
+    most.collect::<String>().into_bytes()
+}
+
 /// The rule with comments before it, as long as a text may be.
 fn commented(rule: &str) -> String {
     let room = LONGEST - rule.len();
@@ -151,9 +165,8 @@ pub fn all() -> Vec<Input> {
     let large = sheet(400, 10_000);
     let largest = sheet(MOST_ROWS, LONGEST);
     let long_name = format!("{:8}dev=\"{:.<48}\",\n", "", "Refrigerated aisle, door 4");
-    let input = |name, text: &str, sheet: &str| {
-        Input { name, text: text.to_string(), sheet: sheet.to_string(), party: 0, primary: own_primary(sheet.as_bytes()) }
-    };
+    let call = |text: &str, sheet: &str| Case::new(0, WORDS, text, sheet).with_party(0, own_primary(sheet.as_bytes()));
+    let input = |name, text: &str, sheet: &str| Input { name, case: call(text, sheet) };
     vec![
         input("small", SMALL, NO_NAMES),
         input("closing", CLOSING, BRANCH),
@@ -169,7 +182,8 @@ pub fn all() -> Vec<Input> {
         input("refused-name", &CLOSING.replace("rule(\"Stocktaking\") is enabled", "lamp(\"Till 9\") is on"), BRANCH),
         input("refused-token", &format!("{CLOSING}@\n"), BRANCH),
         input("refused-sheet", CLOSING, &format!("{large}lamp,0,64,Till\n")),
-        Input { party: GROCER, ..input("closing-most-party-rows", CLOSING, &shared()) },
+        Input { name: "closing-most-party-rows", case: call(CLOSING, &shared()).with_party(GROCER, 0) },
+        Input { name: "tills-most-topics", case: call(TILLS, BRANCH).with_topics(lent()) },
     ]
 }
 
@@ -179,11 +193,7 @@ pub fn named(name: &str) -> Option<Input> {
 
 impl Input {
     pub fn rows(&self) -> usize {
-        self.sheet.lines().count() - 1
-    }
-
-    pub fn shared(&self) -> Shared<'_> {
-        Shared { sheet: self.sheet.as_bytes(), party: self.party, primary: self.primary }
+        String::from_utf8_lossy(&self.case.sheet).lines().count() - 1
     }
 
     /// What the proved reader says, in the last lines' words of the replay format: `accepted` and both counts, or `refused` and
@@ -191,7 +201,7 @@ impl Input {
     pub fn proved(&self) -> (String, usize) {
         let mut words = vec![UNTOUCHED; WORDS];
         let mut answer = [UNTOUCHED; ANSWER];
-        let number = crate::read_archive(self.text.as_bytes(), self.shared(), &mut words, &mut answer);
+        let number = crate::read_archive(&self.case.text, Given::of(&self.case), &mut words, &mut answer);
         assert_eq!(number, answer[0], "{}", self.name);
         let said = match answer[..6] {
             [0, 0, 0, 0, triggers, conditions] => format!("accepted {triggers} {conditions}"),
@@ -203,12 +213,10 @@ impl Input {
 
     /// What the supplied Rust says, in the same words. The call that is timed must say it too.
     pub fn supplied(&self) -> String {
-        let (text, sheet) = (self.text.as_bytes(), self.sheet.as_bytes());
-        let case = Case::new(0, WORDS, text, sheet).with_party(self.party, self.primary);
-        let answer = supplied::answer(&case);
+        let answer = supplied::answer(&self.case);
         let verdict = |line: &&str| line.starts_with("accepted") || line.starts_with("refused");
         let said = answer.lines().find(verdict).expect("the case is in the domain").to_string();
-        match supplied::plain_call(text, sheet, self.party, self.primary) {
+        match supplied::plain_call(&self.case) {
             Ok((triggers, conditions)) => {
                 assert_eq!(said, format!("accepted {} {}", triggers.len(), conditions.len()), "{}", self.name);
             }
@@ -238,7 +246,7 @@ mod tests {
     fn the_inputs_are_what_their_names_say() {
         let sizes = |name| {
             let input = named(name).expect(name);
-            (input.text.len(), input.proved().1, input.sheet.len(), input.rows())
+            (input.case.text.len(), input.proved().1, input.case.sheet.len(), input.rows())
         };
         assert_eq!(sizes("closing").3, BRANCH_ROWS);
         assert_eq!((sizes("closing-400-rows").2, sizes("closing-400-rows").3), (10_000, 400));
@@ -247,13 +255,17 @@ mod tests {
         assert_eq!((sizes("longest-tokens").0, sizes("longest-tokens").1), (LONGEST, 1_024));
         assert_eq!(sizes("most-tokens").1, 1_024);
         assert_eq!(sizes("largest-all"), (LONGEST, 1_024, LONGEST, 512));
-        let shared = named("closing-most-party-rows").expect("it is among them");
-        assert_eq!(shared.sheet.lines().filter(|row| row.starts_with("party,")).count(), 256);
-        assert!(all().iter().all(|input| input.primary == own_primary(input.sheet.as_bytes())));
-        assert_eq!(all().iter().filter(|input| input.party != 0).count(), 1);
+        let party_rows = |input: &Input| String::from_utf8_lossy(&input.case.sheet).lines().filter(|row| row.starts_with("party,")).count();
+        assert_eq!(named("closing-most-party-rows").map(|input| party_rows(&input)), Some(256));
+        let topics = named("tills-most-topics").expect("it is among them").case.topics().to_vec();
+        assert!(topics.len() <= MOST_BYTES && topics.len() + 48 > MOST_BYTES, "{}", topics.len());
+        assert!(all().iter().all(|input| input.case.primary() == own_primary(&input.case.sheet)));
+        assert_eq!(all().iter().filter(|input| input.case.party() != 0).count(), 1);
+        assert_eq!(all().iter().filter(|input| !input.case.topics().is_empty()).count(), 1);
         let said: Vec<String> = all().iter().map(|input| input.proved().0).collect();
         assert!(said[..11].iter().all(|said| said.starts_with("accepted")), "{said:?}");
         assert_eq!(said[11..14], ["refused 31 8 10 0", "refused 10 9 1 0", "refused 3 402 0 0"]);
         assert_eq!((said[14].as_str(), sizes("closing-most-party-rows").3), ("accepted 3 4", MOST_ROWS));
+        assert_eq!(said[15], "accepted 4 3");
     }
 }

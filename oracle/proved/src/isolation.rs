@@ -2,23 +2,22 @@
 
 use crate::agree::UNTOUCHED;
 use crate::inputs::ANSWER;
-use crate::{read, read_archive, sheet_primary, Shared};
+use crate::{read, read_archive, sheet_primary, Given};
 use cases::{own_primary, Case, Habit, RECORD};
 
 /// Everything that a call can change.
 #[derive(Debug, Clone, PartialEq, Eq)]
-struct Left {
-    result: u32,
-    answer: Vec<u32>,
-    words: Vec<u32>,
+pub struct Left {
+    pub result: u32,
+    pub answer: Vec<u32>,
+    pub words: Vec<u32>,
 }
 
-fn left(case: &Case) -> Left {
+pub fn left(case: &Case) -> Left {
     let mut answer = vec![UNTOUCHED; ANSWER];
     let mut words = vec![UNTOUCHED; case.words];
-    let shared = Shared { sheet: &case.sheet, party: case.party(), primary: case.primary() };
     let call = if case.habit() == Habit::Archive { read_archive } else { read };
-    let result = call(&case.text, shared, &mut words, &mut answer);
+    let result = call(&case.text, Given::of(case), &mut words, &mut answer);
     Left { result, answer, words }
 }
 

@@ -11,6 +11,10 @@ pub mod texts;
 mod isolation;
 #[cfg(test)]
 mod tests;
+#[cfg(test)]
+mod topics;
+
+use cases::Case;
 
 extern "C" {
     /// Each slice is passed as a pointer and a length.
@@ -28,6 +32,8 @@ extern "C" {
         text_length: usize,
         sheet: *const u8,
         sheet_length: usize,
+        topics: *const u8,
+        topics_length: usize,
         party: u8,
         primary: u8,
         words: *mut u32,
@@ -41,6 +47,8 @@ extern "C" {
         text_length: usize,
         sheet: *const u8,
         sheet_length: usize,
+        topics: *const u8,
+        topics_length: usize,
         party: u8,
         primary: u8,
         words: *mut u32,
@@ -87,18 +95,25 @@ pub fn lex_into(text: &[u8], words: &mut [u32], answer: &mut [u32]) -> u32 {
     }
 }
 
-/// A name sheet, and the party and the primary of a call on it.
+/// What a call gives beside the text: a name sheet, the topics of earlier rules, one a line, and its party and its primary.
 #[derive(Debug, Clone, Copy)]
-pub struct Shared<'a> {
+pub struct Given<'a> {
     pub sheet: &'a [u8],
+    pub topics: &'a [u8],
     pub party: u8,
     pub primary: u8,
 }
 
+impl<'a> Given<'a> {
+    pub fn of(case: &'a Case) -> Given<'a> {
+        Given { sheet: &case.sheet, topics: case.topics(), party: case.party(), primary: case.primary() }
+    }
+}
+
 /// The default call: reads a rule text with a name sheet, and refuses a repeated argument of `input(`. The layout of the answer is
 /// include/tergyosul.h's; with one of fewer than 108 words nothing is read or written.
-pub fn read(text: &[u8], shared: Shared, words: &mut [u32], answer: &mut [u32]) -> u32 {
-    let Shared { sheet, party, primary } = shared;
+pub fn read(text: &[u8], given: Given, words: &mut [u32], answer: &mut [u32]) -> u32 {
+    let Given { sheet, topics, party, primary } = given;
     // SAFETY: each pointer and length is a slice that is borrowed for the call, and the two mutable ones overlap nothing.
     unsafe {
         tergyosul_read(
@@ -106,6 +121,8 @@ pub fn read(text: &[u8], shared: Shared, words: &mut [u32], answer: &mut [u32]) 
             text.len(),
             sheet.as_ptr(),
             sheet.len(),
+            topics.as_ptr(),
+            topics.len(),
             party,
             primary,
             words.as_mut_ptr(),
@@ -117,8 +134,8 @@ pub fn read(text: &[u8], shared: Shared, words: &mut [u32], answer: &mut [u32]) 
 }
 
 /// The archive loader's call, whose habit the supplied Rust has too: a repeated argument replaces the earlier one.
-pub fn read_archive(text: &[u8], shared: Shared, words: &mut [u32], answer: &mut [u32]) -> u32 {
-    let Shared { sheet, party, primary } = shared;
+pub fn read_archive(text: &[u8], given: Given, words: &mut [u32], answer: &mut [u32]) -> u32 {
+    let Given { sheet, topics, party, primary } = given;
     // SAFETY: each pointer and length is a slice that is borrowed for the call, and the two mutable ones overlap nothing.
     unsafe {
         tergyosul_read_archive(
@@ -126,6 +143,8 @@ pub fn read_archive(text: &[u8], shared: Shared, words: &mut [u32], answer: &mut
             text.len(),
             sheet.as_ptr(),
             sheet.len(),
+            topics.as_ptr(),
+            topics.len(),
             party,
             primary,
             words.as_mut_ptr(),

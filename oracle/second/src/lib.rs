@@ -12,15 +12,17 @@ mod references;
 mod refusal;
 mod sections;
 mod sheet;
+mod topics;
 mod triggers;
 mod values;
 
 use buffer::Buffer;
 use cases::{Case, Habit, Lexing, LEAST_WORDS};
 use model::Lists;
-use reader::{Read, Reader, Repeats};
+use reader::{Given, Read, Reader, Repeats};
 use refusal::{Place, Refusal};
 use sheet::View;
+use topics::Topics;
 
 const MOST_TEXT: usize = 16_384;
 
@@ -42,9 +44,10 @@ pub fn answer(case: &Case) -> String {
 /// more fractional digits, and no text on which the Rust reaches a left-out form"; less, by document 02 §2, "texts with a
 /// duration that the old first 17 refuses", whatever is answered now; and by §11 "the Rust comparison runs on the archive
 /// call". By §6 the Rust's resolver gets the party's rows and the call's primary, "in calls whose primary is the party's": not
-/// for 53.
+/// for 53. By §12 "lent topics in UTF-8 form the reference's rule set": not others. A payload is a left-out form, 40 as the
+/// others.
 pub fn in_domain(case: &Case) -> bool {
-    if case.habit() != Habit::Archive {
+    if case.habit() != Habit::Archive || std::str::from_utf8(case.topics()).is_err() {
         return false;
     }
     let outcome = read(case);
@@ -86,7 +89,8 @@ fn read(case: &Case) -> Outcome<'_> {
     };
     let lexed = lexer::lex(text);
     buffer.write(&lexed.tokens);
-    let result = lexed.end.and_then(|end| Reader::new(text, lexed.tokens, end, view, repeats(case)).sections());
+    let given = Given { sheet: view, topics: Topics::lent(case.topics()), repeats: repeats(case) };
+    let result = lexed.end.and_then(|end| Reader::new(text, lexed.tokens, end, given).sections());
     Outcome { buffer, result, formerly_17: lexed.formerly_17 }
 }
 

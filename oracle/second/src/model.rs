@@ -93,6 +93,7 @@ pub enum Trigger<'a> {
     ControllerBecomesActive,
     RuleFails(&'a [u8]),
     Http,
+    Mqtt(&'a [u8]),
 }
 
 #[derive(Debug, Clone, Copy, PartialEq, Eq)]

@@ -114,6 +114,7 @@ fn trigger(t: &Trigger) -> String {
         Trigger::ControllerBecomesActive => "controller_becomes_active".to_string(),
         Trigger::RuleFails(name) => format!("rule_fails {}", hex(name)),
         Trigger::Http => "http_trigger".to_string(),
+        Trigger::Mqtt(topic) => format!("mqtt {}", hex(topic)),
     }
 }
 

@@ -4,6 +4,7 @@ use crate::lexer::{Kind, Token};
 use crate::model::Choice;
 use crate::refusal::{Place, Refusal};
 use crate::sheet::View;
+use crate::topics::{self, Topics};
 
 /// What a part of the parser gives.
 pub type Read<T> = Result<T, Refusal>;
@@ -18,20 +19,25 @@ pub enum Repeats {
     Replace,
 }
 
-/// The parser: a list of tokens with the text they are from, where it stands in it, what the call sees of the sheet, and its
-/// habit.
+/// What a call gives beside the text: what it sees of the sheet, the topics that stand named, and its habit.
+pub struct Given<'a> {
+    pub sheet: View<'a>,
+    pub topics: Topics<'a>,
+    pub repeats: Repeats,
+}
+
+/// The parser: a list of tokens with the text they are from, where it stands in it, and what the call gives.
 pub struct Reader<'a> {
     text: &'a str,
     tokens: Vec<Token>,
     next: usize,
     end: Place,
-    pub sheet: View<'a>,
-    pub repeats: Repeats,
+    pub given: Given<'a>,
 }
 
 impl<'a> Reader<'a> {
-    pub fn new(text: &'a str, tokens: Vec<Token>, end: Place, sheet: View<'a>, repeats: Repeats) -> Reader<'a> {
-        Reader { text, tokens, next: 0, end, sheet, repeats }
+    pub fn new(text: &'a str, tokens: Vec<Token>, end: Place, given: Given<'a>) -> Reader<'a> {
+        Reader { text, tokens, next: 0, end, given }
     }
 
     pub fn peek(&self) -> Option<Token> {
@@ -48,9 +54,14 @@ impl<'a> Reader<'a> {
         Err(Refusal::new(number, self.place()))
     }
 
-    /// The bytes of a token; those inside the quotes for a string.
+    /// The text of a token; what is inside the quotes for a string.
+    fn written(&self, token: Token) -> &'a str {
+        &self.text[token.start..token.start + token.length]
+    }
+
+    /// The bytes of it.
     pub fn bytes(&self, token: Token) -> &'a [u8] {
-        &self.text.as_bytes()[token.start..token.start + token.length]
+        self.written(token).as_bytes()
     }
 
     pub fn at_kind(&self, kind: Kind) -> bool {
@@ -134,6 +145,13 @@ impl<'a> Reader<'a> {
         let name = self.name()?;
         self.expect(Kind::Close)?;
         Ok(self.bytes(name))
+    }
+
+    /// 64 and 65: a quoted topic.
+    pub fn topic(&mut self) -> Read<&'a [u8]> {
+        let token = self.expect(Kind::String)?;
+        topics::judge(self.written(token), token.place)?;
+        Ok(self.bytes(token))
     }
 
     /// 24: the string that a var is compared with; it may be empty.

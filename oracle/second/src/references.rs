@@ -101,12 +101,12 @@ impl<'a> Reader<'a> {
     fn adapter(&mut self) -> Read<u32> {
         let place = self.place();
         let adapter = self.integer(HIGHEST_ADAPTER)?;
-        if self.sheet.listed.contains(&adapter) { Ok(adapter) } else { Err(Refusal::new(25, place)) }
+        if self.given.sheet.listed.contains(&adapter) { Ok(adapter) } else { Err(Refusal::new(25, place)) }
     }
 
     /// "An id, address, scene or instance group without an adapter takes the primary": the call's.
     pub fn or_primary(&self, adapter: Option<u32>) -> u32 {
-        adapter.unwrap_or(self.sheet.primary)
+        adapter.unwrap_or(self.given.sheet.primary)
     }
 
     /// The range of an id, or the rows of a name.
@@ -122,7 +122,7 @@ impl<'a> Reader<'a> {
     fn look_up(&self, kind: Kind, token: Token, adapter: Option<u32>) -> Read<Ref> {
         let name = self.bytes(token);
         let named = |row: &&Row| row.kind == kind && row.name == name;
-        let rows: Vec<&Row> = self.sheet.rows.iter().filter(named).collect();
+        let rows: Vec<&Row> = self.given.sheet.rows.iter().filter(named).collect();
         let Some(first) = rows.first() else {
             return Err(Refusal::new(31, token.place));
         };
@@ -144,7 +144,7 @@ impl<'a> Reader<'a> {
             return self.reference(Kind::Group).map(Target::Group);
         }
         self.expect_word("broadcast")?;
-        Ok(Target::Broadcast(self.sheet.primary))
+        Ok(Target::Broadcast(self.given.sheet.primary))
     }
 
     /// ARGS, and the place of its `(`, at which 30 is refused.
@@ -175,7 +175,7 @@ impl<'a> Reader<'a> {
             Some(key) => Argument::of(key).ok_or(Refusal::new(21, self.place()))?,
             None => self.unnamed(arguments)?,
         };
-        if self.repeats == Repeats::Refused && arguments.is_set(argument) {
+        if self.given.repeats == Repeats::Refused && arguments.is_set(argument) {
             return self.refuse(63);
         }
         if key.is_some() {

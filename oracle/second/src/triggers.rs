@@ -4,7 +4,7 @@ use crate::lexer::Kind as TokenKind;
 use crate::model::{Bound, Event, Trigger};
 use crate::reader::{one_of, Read, Reader};
 use crate::references::one_instance;
-use crate::refusal::Refusal;
+use crate::refusal::{Place, Refusal};
 use crate::sheet::Kind;
 
 const HIGHEST_SCENE: u32 = 15;
@@ -14,7 +14,7 @@ const HIGHEST_DATA: u32 = 1_023;
 const SHORTEST_PERIOD: u32 = 1_000;
 
 impl<'a> Reader<'a> {
-    /// The first word is taken and then compared: 21. The trigger `mqtt` is left out: 40.
+    /// The first word is taken and then compared: 21.
     pub fn trigger(&mut self) -> Read<Trigger<'a>> {
         let (word, place) = self.any_word()?;
         match word {
@@ -30,9 +30,19 @@ impl<'a> Reader<'a> {
             b"hcl" => self.hcl_override(),
             b"lamp" => self.lamp_trigger(),
             b"input" => self.input_trigger(),
-            b"mqtt" => Err(Refusal::new(40, place)),
+            b"mqtt" => self.mqtt(place),
             _ => Err(Refusal::new(21, place)),
         }
+    }
+
+    /// `mqtt` and a quoted topic. "A following `is` stays with 40, at that `is`", and 66 comes after it.
+    fn mqtt(&mut self, mqtt: Place) -> Read<Trigger<'a>> {
+        let topic = self.topic()?;
+        if self.at_word("is") {
+            return self.refuse(40);
+        }
+        self.given.topics.name(topic, mqtt)?;
+        Ok(Trigger::Mqtt(topic))
     }
 
     fn timer_fires(&mut self) -> Read<Trigger<'a>> {

@@ -73,6 +73,7 @@ fn each_trigger() {
         ("controller starts", "controller_starts"),
         ("controller becomes active", "controller_becomes_active"),
         ("http trigger", "http_trigger"),
+        ("mqtt \"a/b\"", "mqtt x612f62"),
         ("every 1000ms", "every 1000"),
         ("every 1193h", "every 4294800000"),
         ("at 0:00", "at_time 0"),

@@ -305,7 +305,7 @@ fn n37_to_41_of_sections() {
         ("if controller is active", "38 1 1 0"),
         ("\n when", "20 2 6 0"),
         (&format!("when http trigger {four} and ("), "39 1 118 0"),
-        ("when mqtt(\"a\") foo", "40 1 6 0"),
+        ("when mqtt \"a\" is foo", "40 1 15 0"),
         ("when at 7:05 on", "40 1 14 0"),
         ("when http trigger )", "41 1 19 0"),
         ("when http trigger then", "41 1 19 0"),
@@ -328,7 +328,7 @@ fn the_domain() {
     assert!(!in_domain(b"when http trigger", ""));
     assert!(!in_domain(b"\xFF", ALL));
     assert!(!in_domain(&[b' '; 16_385], ALL));
-    assert!(!in_domain(b"when mqtt", ALL));
+    assert!(!in_domain(b"when at 7:05 on", ALL));
     assert!(!in_domain(b"when http trigger if day", ALL));
     assert!(!second::in_domain(&Case { words: 5_119, ..case(b"when http trigger", ALL.as_bytes()) }));
 }

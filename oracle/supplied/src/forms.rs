@@ -2,7 +2,8 @@
 //! no neighbour stops the run, and that each row of the table of messages is met.
 
 use crate::sheet::{Names, Sheet};
-use crate::{answer, left_out, lexer, messages, parser, Cursor};
+use crate::{answer, left_out, lexer, messages, parser, topics, Cursor};
+use dali2rust_rules_model::RuleSet;
 use std::collections::BTreeSet;
 
 /// Of each kind: one name on adapter 1, one on both adapters, one twice on adapter 0.
@@ -23,6 +24,7 @@ const TRIGGERS: &[(&str, &str)] = &[
     ("controller starts", "controller_starts"),
     ("controller becomes active", "controller_becomes_active"),
     ("http trigger", "http_trigger"),
+    ("mqtt \"a\"", "mqtt x61"),
     ("every 1s", "every 1000"),
     ("at 7:05", "at_time 425"),
     ("at sunrise", "at_solar sunrise 0"),
@@ -124,8 +126,12 @@ const OTHERS: &[&str] = &[
     "0.0001s", "1194h", "'",
 ];
 
-fn case(text: &str) -> cases::Case {
-    cases::Case::new(0, cases::LEAST_WORDS, text, sheet())
+/// Eight topics that are lent with every text; `a` is none of them, `Till` is one.
+const LENT: &str = "1\n2\n3\n4\n5\n6\n7\nTill\n";
+
+/// The text without lent topics and with eight.
+fn cases(text: &str) -> [cases::Case; 2] {
+    ["", LENT].map(|lent| cases::Case::new(0, cases::LEAST_WORDS, text, sheet()).with_topics(lent))
 }
 
 /// Every form as a text.
@@ -152,25 +158,26 @@ fn neighbours(text: &str) -> Vec<String> {
 }
 
 /// The message that the supplied Rust refuses a text with, unless it comes to a left-out form.
-fn message(text: &str, names: &Names) -> Option<String> {
+fn message(text: &str, names: &Names, earlier: &RuleSet) -> Option<String> {
     let lexed = match lexer::lex(text) {
         Ok(lexed) => lexed,
         Err(error) => return Some(error.message),
     };
-    if left_out::first_reached(&lexed, names).is_some() {
+    if left_out::first_reached(&lexed, names, earlier).is_some() {
         return None;
     }
-    parser::action::sections(&mut Cursor::new(lexed, names)).err().map(|error| error.message)
+    parser::action::sections(&mut Cursor::new(lexed, names), earlier).err().map(|error| error.message)
 }
 
 #[test]
 fn each_form_is_shown() {
+    let said = |text: String| answer(&cases(&text)[0]);
     for (form, line) in TRIGGERS {
-        let said = answer(&case(&format!("when {form}")));
+        let said = said(format!("when {form}"));
         assert!(said.ends_with(&format!("buffer kept\naccepted 1 0\nT {line}\n")), "{form}: {said}");
     }
     for (form, line) in CONDITIONS {
-        let said = answer(&case(&format!("when http trigger if {form}")));
+        let said = said(format!("when http trigger if {form}"));
         assert!(said.ends_with(&format!("buffer kept\naccepted 1 1\nT http_trigger\nC {line}\n")), "{form}: {said}");
     }
 }
@@ -178,8 +185,10 @@ fn each_form_is_shown() {
 #[test]
 fn no_neighbour_stops_the_run() {
     for text in texts().flat_map(|text| neighbours(&text)) {
-        let said = answer(&case(&text));
-        assert!(said.contains("\naccepted ") || said.contains("\nrefused "), "{text}: {said}");
+        for case in cases(&text) {
+            let said = answer(&case);
+            assert!(said.contains("\naccepted ") || said.contains("\nrefused "), "{text}: {said}");
+        }
     }
 }
 
@@ -191,6 +200,7 @@ fn each_row_of_the_table_is_met() {
     let one_instance = "when http trigger if input ( group = 1 ) is occupied".to_owned();
     let more = [five_triggers, five_conditions, one_instance];
     let all = texts().flat_map(|text| neighbours(&text)).chain(more);
-    let said: BTreeSet<String> = all.filter_map(|text| message(&text, &names)).collect();
+    let earlier = topics::earlier(LENT.as_bytes()).expect("the topics are UTF-8");
+    let said: BTreeSet<String> = all.filter_map(|text| message(&text, &names, &earlier)).collect();
     assert_eq!(messages::unmet(&said), [""; 0]);
 }

@@ -1,18 +1,20 @@
-//! Question 40: the forms that document 01 leaves out and the supplied Rust has.
+//! Question 40: the forms that the documents leave out and the supplied Rust has.
 //!
 //! The supplied Rust comes to such a word just if, given only the tokens before it, it uses up all of them and then
-//! asks for the word's place: for a trigger before `mqtt`, for a condition before `day`; and before `on` it takes
-//! `at` and a time as a whole trigger. It looks past the word in hand only inside `input(…)`, so what it does up to
-//! the word does not hang on the word. The first such word is answered, and the supplied Rust never goes into it.
+//! asks for the word's place: for a condition before `day`; before `on` it takes `at` and a time as a whole trigger,
+//! and before `is` it reads `mqtt` and a topic as one. It looks past the word in hand only inside `input(…)`, so what it
+//! does up to the word does not hang on the word. The first such word is answered, and the supplied Rust never goes into it.
 
 use crate::cursor::Cursor;
 use crate::lexer::{Lexed, Pos, Token, TokenKind};
+use crate::messages;
 use crate::parser::action::sections;
-use dali2rust_rules_model::NameResolver;
+use dali2rust_rules_model::{CompileError, NameResolver, RuleSet};
 
 /// The place of the first left-out word that the supplied Rust comes to.
-pub fn first_reached(lexed: &Lexed, names: &dyn NameResolver) -> Option<Pos> {
-    let reached = |i: &usize| is_reached(&lexed.tokens[..*i], &lexed.tokens[*i], names);
+pub fn first_reached(lexed: &Lexed, names: &dyn NameResolver, earlier: &RuleSet) -> Option<Pos> {
+    let call = Call { names, earlier };
+    let reached = |i: &usize| call.reaches(&lexed.tokens[..*i], &lexed.tokens[*i]);
     (1..lexed.tokens.len()).find(reached).map(|i| lexed.tokens[i].pos)
 }
 
@@ -20,35 +22,56 @@ fn is_word(token: &Token, word: &str) -> bool {
     matches!(&token.kind, TokenKind::Ident(w) if w == word)
 }
 
-fn is_reached(before: &[Token], token: &Token, names: &dyn NameResolver) -> bool {
-    match before {
-        [.., when] if is_word(token, "mqtt") && is_word(when, "when") => {
-            asks(before, token.pos, names, "expected a trigger")
+fn stands_at(error: &CompileError, pos: Pos) -> bool {
+    (error.line, error.column) == (pos.line, pos.column)
+}
+
+/// What a call gives beside the text.
+struct Call<'a> {
+    names: &'a dyn NameResolver,
+    earlier: &'a RuleSet,
+}
+
+impl Call<'_> {
+    fn reaches(&self, before: &[Token], token: &Token) -> bool {
+        match before {
+            [.., link] if is_word(token, "day") && (is_word(link, "if") || is_word(link, "and")) => {
+                self.asks(before, token.pos, "expected a condition")
+            }
+            [.., when, at, Token { kind: TokenKind::Time { .. }, .. }]
+                if is_word(token, "on") && is_word(at, "at") && is_word(when, "when") =>
+            {
+                self.takes(before, token.pos)
+            }
+            [.., when, mqtt, Token { kind: TokenKind::Str(_), .. }]
+                if is_word(token, "is") && is_word(mqtt, "mqtt") && is_word(when, "when") =>
+            {
+                self.takes(before, token.pos) || self.counts(before, token.pos, mqtt.pos)
+            }
+            _ => false,
         }
-        [.., link] if is_word(token, "day") && (is_word(link, "if") || is_word(link, "and")) => {
-            asks(before, token.pos, names, "expected a condition")
-        }
-        [.., when, at, Token { kind: TokenKind::Time { .. }, .. }]
-            if is_word(token, "on") && is_word(at, "at") && is_word(when, "when") =>
-        {
-            takes(before, token.pos, names)
-        }
-        _ => false,
     }
-}
 
-/// Whether the supplied Rust uses up the tokens and then says this at their end.
-fn asks(before: &[Token], end: Pos, names: &dyn NameResolver, message: &str) -> bool {
-    let said = sections(&mut cursor(before, end, names));
-    said.is_err_and(|e| e.message == message && (e.line, e.column) == (end.line, end.column))
-}
+    /// Whether the supplied Rust uses up the tokens and then says this at their end.
+    fn asks(&self, before: &[Token], end: Pos, message: &str) -> bool {
+        let said = sections(&mut self.cursor(before, end), self.earlier);
+        said.is_err_and(|error| error.message == message && stands_at(&error, end))
+    }
 
-/// Whether the supplied Rust takes the tokens, and all of them.
-fn takes(before: &[Token], end: Pos, names: &dyn NameResolver) -> bool {
-    let mut cursor = cursor(before, end, names);
-    sections(&mut cursor).is_ok() && cursor.peek().is_none()
-}
+    /// Whether the supplied Rust takes the tokens, and all of them.
+    fn takes(&self, before: &[Token], end: Pos) -> bool {
+        let mut cursor = self.cursor(before, end);
+        sections(&mut cursor, self.earlier).is_ok() && cursor.peek().is_none()
+    }
 
-fn cursor<'a>(tokens: &[Token], end: Pos, names: &'a dyn NameResolver) -> Cursor<'a> {
-    Cursor::new(Lexed { tokens: tokens.to_vec(), end }, names)
+    /// Whether it refuses the last trigger for the count of topics alone, at its `mqtt`; it counts them once it has read the whole
+    /// trigger, with the payload if there is one.
+    fn counts(&self, before: &[Token], end: Pos, mqtt: Pos) -> bool {
+        let said = sections(&mut self.cursor(before, end), self.earlier);
+        said.is_err_and(|error| messages::is(66, &error) && stands_at(&error, mqtt))
+    }
+
+    fn cursor(&self, tokens: &[Token], end: Pos) -> Cursor<'_> {
+        Cursor::new(Lexed { tokens: tokens.to_vec(), end }, self.names)
+    }
 }

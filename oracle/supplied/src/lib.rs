@@ -12,6 +12,7 @@ mod places;
 mod sheet;
 mod shown;
 mod tokens;
+mod topics;
 
 /// The supplied `lex` itself, as it stands, to be timed.
 pub use crate::lexer::lex as supplied_lex;
@@ -20,7 +21,7 @@ use crate::cursor::Cursor;
 use crate::lexer::{Lexed, Pos};
 use crate::sheet::{Names, Sheet};
 use crate::tokens::Record;
-use dali2rust_rules_model::{CompileError, Condition, Trigger};
+use dali2rust_rules_model::{CompileError, Condition, RuleSet, Trigger};
 use std::fmt::Write;
 use std::str::Utf8Error;
 
@@ -52,8 +53,9 @@ pub(crate) enum Verdict {
 
 /// The text that the replay format orders for the case: its token records, then the refusal or the two lists.
 ///
-/// Of the settings of a call the party and the primary count; what the supplied Rust does with repeated arguments is the
-/// archive habit. A case on which the supplied Rust would overflow has the one line `outside the domain` instead.
+/// Of the settings of a call the party, the primary and the lent topics count; what the supplied Rust does with repeated
+/// arguments is the archive habit. A case on which the supplied Rust would overflow, or whose text it would parse with lent
+/// topics that are not UTF-8, has the one line `outside the domain` instead.
 pub fn answer(case: &cases::Case) -> String {
     let (records, verdict) = judged(case);
     let mut out = format!("case {}\n", case.id);
@@ -124,19 +126,21 @@ fn judged(case: &cases::Case) -> (Vec<Record>, Verdict) {
     let verdict = match read.end {
         tokens::End::Refused(refusal) => Verdict::Refused(refusal),
         tokens::End::Overflow => Verdict::OutsideTheDomain,
-        tokens::End::Lexed(lexed) => parsed(lexed, &names),
+        tokens::End::Lexed(lexed) => {
+            topics::earlier(case.topics()).map_or(Verdict::OutsideTheDomain, |earlier| parsed(lexed, &names, &earlier))
+        }
     };
     (read.records, verdict)
 }
 
 /// What is said once every token is read: 40 for a left-out form that the supplied Rust comes to, else what its two
 /// sections say, else 41 for a token behind them.
-fn parsed(lexed: Lexed, names: &Names) -> Verdict {
-    if let Some(pos) = left_out::first_reached(&lexed, names) {
+fn parsed(lexed: Lexed, names: &Names, earlier: &RuleSet) -> Verdict {
+    if let Some(pos) = left_out::first_reached(&lexed, names, earlier) {
         return Verdict::Refused(Refusal::at(40, pos));
     }
     let mut cursor = Cursor::new(lexed, names);
-    match parser::action::sections(&mut cursor) {
+    match parser::action::sections(&mut cursor, earlier) {
         Err(error) => Verdict::Refused(messages::refusal(&error)),
         Ok(_) if cursor.peek().is_some() => Verdict::Refused(Refusal::at(41, cursor.here())),
         Ok((triggers, conditions)) => Verdict::Accepted(triggers, conditions),
@@ -151,6 +155,8 @@ pub enum Untaken {
     /// The primary is not the party's.
     Primary,
     Text(Utf8Error),
+    /// The lent topics are not UTF-8.
+    Topics,
     /// What the supplied Rust says.
     Rule(CompileError),
     /// A token is left behind both sections.
@@ -163,14 +169,21 @@ pub fn plain_sheet(sheet: &[u8], party: u8, primary: u8) -> Result<Names, Untake
     sheet.names_for(party, primary).ok_or(Untaken::Primary)
 }
 
-/// A whole call with nothing around it, to be timed: the sheet into its tables, the text as characters, the supplied `lex`,
-/// and its two sections up to the end of the tokens. Questions 1, 2 and 19 are not asked, and no records are made.
-pub fn plain_call(text: &[u8], sheet: &[u8], party: u8, primary: u8) -> Result<(Vec<Trigger>, Vec<Condition>), Untaken> {
-    let names = plain_sheet(sheet, party, primary)?;
-    let text = std::str::from_utf8(text).map_err(Untaken::Text)?;
+/// The same of the lent topics, into a rule set.
+pub fn plain_topics(topics: &[u8]) -> Result<RuleSet, Untaken> {
+    topics::earlier(topics).ok_or(Untaken::Topics)
+}
+
+/// A whole call with nothing around it, to be timed: the sheet into its tables, the topics into a rule set, the text as
+/// characters, the supplied `lex`, and its two sections up to the end of the tokens. Questions 1, 2 and 19 are not asked, and no
+/// records are made.
+pub fn plain_call(case: &cases::Case) -> Result<(Vec<Trigger>, Vec<Condition>), Untaken> {
+    let names = plain_sheet(&case.sheet, case.party(), case.primary())?;
+    let earlier = plain_topics(case.topics())?;
+    let text = std::str::from_utf8(&case.text).map_err(Untaken::Text)?;
     let lexed = supplied_lex(text).map_err(Untaken::Rule)?;
     let mut cursor = Cursor::new(lexed, &names);
-    let lists = parser::action::sections(&mut cursor).map_err(Untaken::Rule)?;
+    let lists = parser::action::sections(&mut cursor, &earlier).map_err(Untaken::Rule)?;
     if cursor.peek().is_some() {
         return Err(Untaken::Rest);
     }

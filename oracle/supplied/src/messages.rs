@@ -45,6 +45,7 @@ const ROWS: &[Row] = &[
     filled(20, "expected {what}", WORDS_AND_NUMBERS),
     filled(20, "expected `{kw}`", KEYWORDS),
     filled(20, "expected quoted {what}", QUOTED_KINDS),
+    filled(20, "expected quoted {what}", &["mqtt topic"]),
     filled(20, "expected {what} name or id", NAMED_KINDS),
     filled(20, "expected {what} duration (e.g. 500ms, 0.7s, 5m)", &["every period", "solar offset", "age"]),
     plain(20, "expected instance type"),
@@ -102,6 +103,9 @@ const ROWS: &[Row] = &[
     plain(37, "rule \"{rule}\" has more than {MAX_TRIGGERS_PER_RULE} `when` triggers"),
     plain(38, "rule \"{rule}\" needs a `when` trigger"),
     plain(39, "rule \"{rule}\" has more than {MAX_CONDITIONS_PER_RULE} conditions"),
+    plain(64, "an mqtt topic is one exact topic: not empty, no `+`, `#`, control character or Unicode noncharacter"),
+    plain(65, "mqtt topic exceeds {MAX_MQTT_TOPIC_BYTES} bytes"),
+    plain(66, "a document names at most {MAX_MQTT_TRIGGER_TOPICS} mqtt trigger topics"),
 ];
 
 const SIGNS: &[&str] = &[
@@ -194,6 +198,12 @@ pub fn refusal(error: &CompileError) -> Refusal {
     Refusal { detail, ..Refusal::at(number, Pos { line: error.line, column: error.column }) }
 }
 
+/// Whether the message is one of this number.
+pub fn is(number: u32, error: &CompileError) -> bool {
+    let fits = |(of, message): &(u32, String)| *of == number && fits(message, &error.message).is_some();
+    messages().iter().any(fits)
+}
+
 /// If the text is the message with its gaps filled, the detail: the number in the gap `{}`, or 0.
 fn fits(message: &str, text: &str) -> Option<u32> {
     let (mut message, mut text, mut detail) = (message, text, 0);
@@ -250,13 +260,7 @@ mod tests {
         ("expected HH:MM", "time_of_day is called only at a time"),
         ("expected a value, got \"{family}\"", "reading is called only at one of its words"),
         ("unknown day \"{word}\"", "left out: days"),
-        ("mqtt topic exceeds {MAX_MQTT_TOPIC_BYTES} bytes", "left out: mqtt"),
-        ("mqtt payload exceeds {MAX_MQTT_PAYLOAD_BYTES} bytes", "left out: mqtt"),
-        (
-            "an mqtt topic is one exact topic: not empty, no `+`, `#`, control character or Unicode noncharacter",
-            "left out: mqtt",
-        ),
-        ("a document names at most {MAX_MQTT_TRIGGER_TOPICS} mqtt trigger topics", "left out: mqtt"),
+        ("mqtt payload exceeds {MAX_MQTT_PAYLOAD_BYTES} bytes", "left out: payloads"),
         ("duplicate {what} \"{name}\"", "whole rules are not read"),
         ("block \"{name}\" has no actions", "whole rules are not read"),
         ("expected true or false, got \"{word}\"", "whole rules are not read"),
@@ -315,7 +319,8 @@ mod tests {
         let more = [("{key}", "dev"), ("{unit}", "x"), ("{id}", "64"), ("{min}", "0"), ("{max}", "31")];
         let last = [("{value}", "99"), ("{adapter}", "1"), ("{MAX_NAME_BYTES}", "48"), ("{MAX_VAR_TEXT_BYTES}", "16")];
         let fixed = [("{MAX_TRIGGERS_PER_RULE}", "4"), ("{MAX_CONDITIONS_PER_RULE}", "4")];
-        let all = gaps.into_iter().chain(more).chain(last).chain(fixed);
+        let topics = [("{MAX_MQTT_TOPIC_BYTES}", "48"), ("{MAX_MQTT_TRIGGER_TOPICS}", "8")];
+        let all = gaps.into_iter().chain(more).chain(last).chain(fixed).chain(topics);
         all.fold(message.to_owned(), |text, (gap, filling)| text.replace(gap, filling))
     }
 

@@ -56,6 +56,7 @@ fn rarer_trigger(trigger: &Trigger) -> String {
         Trigger::ControllerBecomesActive => "controller_becomes_active".into(),
         Trigger::RuleFails { rule } => format!("rule_fails {}", hex(rule)),
         Trigger::HttpTrigger => "http_trigger".into(),
+        Trigger::MqttMessage { topic, payload: None } => format!("mqtt {}", hex(topic)),
         other => panic!("no line of the replay format shows {other:?}"),
     }
 }

@@ -178,6 +178,7 @@ fn trigger(t: Trigger, text: &[u8]) -> String {
         Trigger::ControllerBecomesActive => "controller_becomes_active".to_string(),
         Trigger::RuleFails(name) => format!("rule_fails {}", hex(name, text)),
         Trigger::HttpTrigger => "http_trigger".to_string(),
+        Trigger::MqttMessage(topic) => format!("mqtt {}", hex(topic, text)),
     }
 }
 

@@ -1,10 +1,14 @@
--- Triggers, in document 01's order.
+-- Triggers, in document 01's order; `mqtt` is document 02's.
 use Prim.Native.Nat.{ℕ, _≤_}
+use mathlib.Core.Path.{_≡_}
+use mathlib.Core.Bool.{false}
+use mathlib.Core.List.{List}
+use lib.ListN.{length}
 use lib.IntN.{ℤ}
 use Rattle.text.specs.Literal.{ascii}
-use Rattle.tokens.specs.Kind.{DURATION, OPEN, CLOSE, POINT, ASSIGN}
+use Rattle.tokens.specs.Kind.{STRING, DURATION, OPEN, CLOSE, POINT, ASSIGN}
 use Rattle.tokens.specs.Cursor.{Tok}
-use Rattle.model.specs.Limits.{lastScene, lastLevel, lastEventInformation}
+use Rattle.model.specs.Limits.{lastScene, lastLevel, lastEventInformation, longestName}
 use Rattle.sheet.specs.View.{View}
 use Rattle.tokens.specs.Grammar.{Token, Word, Up-to, Phrase, Either-word}
 use Rattle.references.specs.Grammar.{Q, Clause, On-adapter, Lamp, Group, Device, Input-device, Target, Args-of, One-instance}
@@ -13,6 +17,7 @@ use Rattle.model.specs.declared.Ref.{Ref}
 use Rattle.model.specs.declared.LightTarget.{LightTarget}
 use Rattle.model.specs.declared.InputRef.{InputRef}
 use Rattle.model.specs.declared.Selector.{Selector}
+use Rattle.topics.specs.Topic.{forbidden}
 use Rattle.language.specs.Limits.{leastPeriod}
 use Rattle.language.specs.grammar.Timeval.{Bound}
 use Rattle.model.specs.declared.Name.{Name}
@@ -32,7 +37,7 @@ use Rattle.model.specs.declared.Online.the-variants.{GoesOffline, ComesOnline}
 use Rattle.model.specs.declared.Override.{Override}
 use Rattle.model.specs.declared.Override.the-variants.{Starts, Clears}
 use Rattle.model.specs.declared.Trigger.{Trigger}
-use Rattle.model.specs.declared.Trigger.the-variants.{InputEvent, InputOccupancy, InputLightCross, InputPositionChange, InputDevicePowerCycled, InputDeviceManualConfigChanged, AtTime, AtSolar, Every, LampTurns, LampLevelCross, GroupBecomes, SceneRecalled, DeviceOnline, HclOverride, TimerFires, ControllerStarts, ControllerBecomesActive, RuleFails, HttpTrigger}
+use Rattle.model.specs.declared.Trigger.the-variants.{InputEvent, InputOccupancy, InputLightCross, InputPositionChange, InputDevicePowerCycled, InputDeviceManualConfigChanged, AtTime, AtSolar, Every, LampTurns, LampLevelCross, GroupBecomes, SceneRecalled, DeviceOnline, HclOverride, TimerFires, ControllerStarts, ControllerBecomesActive, RuleFails, HttpTrigger, MqttMessage}
 
 abbrev pub On-off : (ℕ → Tok) → ℕ → Power → ℕ → Type 0
 On-off t i power j = Either-word t (ascii "on") On (ascii "off") Off i power j
@@ -66,6 +71,12 @@ pub data Event-of (t : ℕ → Tok) : ℕ → Event → ℕ → Type 0 where
   raw : {i j a k l b m n o c p : ℕ} → Word t (ascii "event") i j → Token t OPEN j a k → Word t (ascii "data") k l → Token t ASSIGN l b m →
       Up-to t lastEventInformation m n o → Token t CLOSE o c p → Event-of t i (Raw n) p
 
+-- "A topic has 1 to 48 bytes and no `+`, `#`, control character or Unicode noncharacter."
+pub record Topic (bytes : List ℕ) : Type 0 where
+  pub some : 1 ≤ length bytes
+  pub few : length bytes ≤ longestName
+  pub allowed : forbidden bytes ≡ false
+
 pub data Trigger-of (t : ℕ → Tok) (view : View) (range : ℕ → Name) : ℕ → Trigger → ℕ → Type 0 where
   -- "timer Q fires; rule Q fails"
   timer-fires : {i j n k l : ℕ} → Word t (ascii "timer") i j → Q t j n k → Phrase t (ascii "fires") k l →
@@ -79,6 +90,9 @@ pub data Trigger-of (t : ℕ → Tok) (view : View) (range : ℕ → Name) : ℕ
       Trigger-of t view range i ControllerBecomesActive k
   -- "http trigger"
   http-trigger : {i j k : ℕ} → Word t (ascii "http") i j → Word t (ascii "trigger") j k → Trigger-of t view range i HttpTrigger k
+  -- "`mqtt` and a quoted topic"
+  mqtt-message : {i j n k : ℕ} → Word t (ascii "mqtt") i j → Token t STRING j n k → Topic (t j .bytes) →
+      Trigger-of t view range i (MqttMessage (range j)) k
   -- "every DURATION", of at least 1,000 ms (35)
   every : {i j ms k : ℕ} → Word t (ascii "every") i j → Token t DURATION j ms k → leastPeriod ≤ ms → Trigger-of t view range i (Every ms) k
   -- "at TIME or SOLAR"

@@ -17,7 +17,7 @@ unfolding listRows firstTrigger firstCondition rowCount rowWords
 with-room c =
     let long = c .before .before .before .before .before .before .before .before .if1 .left in
     let d = c .before .before .before .before .before .before .read-by .ensures in
-    (room _ _ _ long (ap (λ (a : Answer). a .number) (d .0 .0)), (room _ _ _ long (d .0 .1), c .before .before .put-answer .ensures ∙ ap (flat (now (c .before .before .before .before .before .before .before .before .before .before .before .before .before .args .answer))) (d .0 .0)))
+    (room _ _ _ long (ap (λ (a : Answer). a .number) (d .0 .0)), (room _ _ _ long (d .0 .1), c .before .before .put-answer .ensures ∙ ap (flat (now (c .before .before .before .before .before .before .before .before .before .before .before .before .before .before .args .answer))) (d .0 .0)))
 
 pub read-by-spec : {M : Type 1} → statement M
 read-by-spec =

@@ -2,6 +2,7 @@
 //! instructions.
 
 use proved::inputs::{all, assert_agreed, named, Input, ANSWER, WORDS};
+use proved::Given;
 use std::hint::black_box;
 use std::process::ExitCode;
 use std::time::Instant;
@@ -31,21 +32,23 @@ type Call = fn(&Input, &mut Lent);
 #[no_mangle]
 #[inline(never)]
 fn call_of_the_proved(input: &Input, lent: &mut Lent) {
-    black_box(proved::read_archive(input.text.as_bytes(), input.shared(), &mut lent.words, &mut lent.answer));
+    let case = &input.case;
+    black_box(proved::read_archive(&case.text, Given::of(case), &mut lent.words, &mut lent.answer));
 }
 
-/// One whole call of the supplied Rust, with the sheet's tables made for it, and the freeing of what it gives.
+/// One whole call of the supplied Rust, with the sheet's tables and the rule set made for it, and the freeing of what it gives.
 #[no_mangle]
 #[inline(never)]
 fn call_of_the_supplied(input: &Input, _: &mut Lent) {
-    let _ = black_box(supplied::plain_call(input.text.as_bytes(), input.sheet.as_bytes(), input.party, input.primary));
+    let _ = black_box(supplied::plain_call(&input.case));
 }
 
 /// The part of that call that makes the sheet's tables, and the freeing of them.
 #[no_mangle]
 #[inline(never)]
 fn call_of_the_sheet(input: &Input, _: &mut Lent) {
-    let _ = black_box(supplied::plain_sheet(input.sheet.as_bytes(), input.party, input.primary));
+    let case = &input.case;
+    let _ = black_box(supplied::plain_sheet(&case.sheet, case.party(), case.primary()));
 }
 
 fn main() -> ExitCode {
@@ -69,7 +72,7 @@ fn list() -> Option<()> {
     for input in all() {
         let (said, tokens) = input.proved();
         let said = said.replace(' ', "_");
-        println!("{} {} {tokens} {} {} {said}", input.name, input.text.len(), input.sheet.len(), input.rows());
+        println!("{} {} {tokens} {} {} {said}", input.name, input.case.text.len(), input.case.sheet.len(), input.rows());
     }
     Some(())
 }

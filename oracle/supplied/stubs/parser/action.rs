@@ -7,9 +7,10 @@ use dali2rust_rules_model::{Action, CompileError, Condition, RuleSet, Trigger};
 /// The name under which the text's two sections are read. It shows in messages only.
 pub const RULE: &str = "text";
 
-/// The reference of document 01: when_section with an empty rule set, then if_section.
-pub fn sections(c: &mut Cursor<'_>) -> Result<(Vec<Trigger>, Vec<Condition>), CompileError> {
-    let triggers = super::when_section(c, RULE, &RuleSet::empty(0))?;
+/// The reference of document 01: when_section with a rule set, then if_section. "Lent topics in UTF-8 form the reference's rule
+/// set", document 02 §12.
+pub fn sections(c: &mut Cursor<'_>, earlier: &RuleSet) -> Result<(Vec<Trigger>, Vec<Condition>), CompileError> {
+    let triggers = super::when_section(c, RULE, earlier)?;
     let conditions = super::if_section(c, RULE)?;
     Ok((triggers, conditions))
 }

@@ -5,3 +5,4 @@ mod pairs;
 mod parties;
 mod settled;
 mod told;
+mod topics;

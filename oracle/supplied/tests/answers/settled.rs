@@ -162,23 +162,22 @@ fn left_out_forms_are_refused_at_their_word() {
     for tail in ["", " in", " in mon", " foo"] {
         assert_eq!(verdict(&format!("when controller starts if day{tail}")), "refused 40 1 27 0");
         assert_eq!(verdict(&format!("when at 7:05 on{tail}")), "refused 40 1 14 0");
-        assert_eq!(verdict(&format!("when mqtt{tail}")), "refused 40 1 6 0");
+        assert_eq!(verdict(&format!("when mqtt \"a\" is{tail}")), "refused 40 1 15 0");
     }
-    assert_eq!(verdict("when mqtt \"a\" is \"b\""), "refused 40 1 6 0");
     assert_eq!(verdict("when at 7:05 on mon..fri if day in sun"), "refused 40 1 14 0");
     assert_eq!(verdict("when http trigger if sun is up and day in mon"), "refused 40 1 36 0");
-    assert_eq!(verdict("when http trigger when mqtt \"a\""), "refused 40 1 24 0");
+    assert_eq!(verdict("when http trigger when mqtt \"a\" is \"b\""), "refused 40 1 33 0");
 }
 
 #[test]
 fn left_out_words_elsewhere_are_other_refusals() {
     let four = "when http trigger ".repeat(4);
-    assert_eq!(verdict(&(four.clone() + "when mqtt")), "refused 37 1 73 0");
+    assert_eq!(verdict(&(four.clone() + "when mqtt \"a\" is")), "refused 37 1 73 0");
     assert_eq!(verdict(&(four + "when at 7:05 on")), "refused 37 1 73 0");
     assert_eq!(verdict("when day"), "refused 21 1 6 0");
     assert_eq!(verdict("if day"), "refused 38 1 1 0");
     assert_eq!(verdict("when http trigger if mqtt"), "refused 21 1 22 0");
-    assert_eq!(verdict("when lamp(\"nobody\") turns on when mqtt"), "refused 31 1 11 0");
+    assert_eq!(verdict("when lamp(\"nobody\") turns on when mqtt \"a\" is"), "refused 31 1 11 0");
     assert_eq!(verdict("when http trigger if time in 7:05..8:00 on"), "refused 41 1 41 0");
     let five = "when http trigger if sun is up and sun is up and sun is up and sun is up and day";
     assert_eq!(verdict(five), "refused 39 1 74 0");

@@ -77,4 +77,7 @@ trigger-row-spec =
     (λ c. search triggers depth 16)
     (λ c. search needs)
     (λ c κs. search needs)
+    (λ c. search triggers depth 16)
+    (λ c. search needs)
+    (λ c κs. search needs)
     (λ c. search triggers depth 16))

@@ -8,9 +8,9 @@ read-by-spec =
     tie.close
     (tie.spec
     (λ c κs. search needs)
-    (λ c. promised _ (search needs) _ _ _ (search long-answer) (search long-buffer))
+    (λ c. promised _ (search needs) _ _ _ _ (search long-answer) (search long-buffer))
     (λ c κs. search needs)
-    (λ c. promised _ (search needs) _ _ _ (search small-answer) (search small-buffer))
+    (λ c. promised _ (search needs) _ _ _ _ (search small-answer) (search small-buffer))
     (λ c κs. search needs)
     (λ c. search needs)
-    (λ c. promised _ (search needs) _ _ _ (search asked-answer) (search asked-buffer)))
+    (λ c. promised _ (search needs) _ _ _ _ (search asked-answer) (search asked-buffer)))

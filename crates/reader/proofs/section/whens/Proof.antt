@@ -1,25 +1,22 @@
 use borrow.Author.Needs.{needs}
 use Prim.Native.Nat.{_-_}
-use Rattle.text.specs.Literal.{ascii}
 use Rattle.tokens.specs.Cursor.{tokens}
 use Rattle.tokens.specs.Record.{capacity}
 use Rattle.sheet.specs.View.{viewOf}
 use Rattle.language.specs.Range.{rangeOf}
-use Rattle.language.specs.Trigger.{triggerAt}
-use Rattle.language.specs.Section.{repeated}
-use Rattle.reader.proofs.SectionLaws.{When-going, whens-begin, whens-end, whens-full, whens-stop, whens-put}
+use Rattle.reader.proofs.SectionLaws.{Whens-loop, whole-of, whens-begin, whens-end, whens-full, whens-stop, whens-put}
 use Rattle.reader.proofs.section.whens.Statement.{statement}
 use Rattle.reader.proofs.section.whens.Tie as tie
 
 abbrev Inv-loop : tie.InvT-loop
-Inv-loop text words s settings list₀ p₀ word list p =
+Inv-loop text words s settings lent list₀ named₀ p₀ word list named p =
     let t = tokens text words in
     let view = viewOf settings s in
-    When-going t view (rangeOf words) (capacity words)
-    (repeated t (ascii "when") 37 (triggerAt t view (rangeOf words) (capacity words)) 4 (p₀ .index)) list (p .index)
+    Whens-loop text t view (rangeOf words) lent (capacity words)
+    (whole-of text t view (rangeOf words) lent (capacity words) (p₀ .index)) list named (p .index)
 
 abbrev μ-loop : tie.MeasureT-loop
-μ-loop text words s settings list₀ p₀ word list p = 4 - list .count
+μ-loop text words s settings lent list₀ named₀ p₀ word list named p = 4 - list .count
 
 pub whens-spec : {M : Type 1} → statement M
 whens-spec =
@@ -27,6 +24,7 @@ whens-spec =
     (tie.spec
     Inv-loop
     μ-loop
+    (λ c κs. search needs)
     (λ c κs. search needs)
     (λ c. search whens-begin)
     (λ c. search needs)
@@ -43,6 +41,7 @@ whens-spec =
     (λ c κs. search needs)
     (λ c. search whens-stop)
     (λ c. search needs)
+    (λ c κs. search needs)
     (λ c. search needs)
     (λ c. search needs)
     (λ c. search needs)

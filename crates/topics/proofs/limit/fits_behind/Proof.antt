@@ -1,0 +1,42 @@
+use mathlib.Core.Path.{_≡_, refl}
+use mathlib.Core.Bool.{Bool, true, false, not}
+use mathlib.Core.List.{List}
+use Prim.Native.Nat.{ℕ, _+_}
+use borrow.Author.Needs.{needs}
+use Rattle.text.specs.Choice.{pick}
+use Rattle.text.specs.Part.{partOf}
+use Rattle.topics.specs.Topics.{tooMany, fits}
+use Rattle.topics.specs.Ranges.{nameIn, topicBy}
+use Rattle.model.specs.declared.Name.{Name}
+use Rattle.topics.specs.declared.ranges.Topic.{Topic}
+use Rattle.topics.specs.declared.ranges.Topic.the-variants.{Absent, Is}
+use Rattle.topics.proofs.limit.fits_behind.Statement.{statement}
+use Rattle.topics.proofs.limit.fits_behind.Tie as tie
+
+module _ (lent named : List (List ℕ)) (text : List ℕ) (x : Topic) where
+  none-fits : x ≡ Absent → true ≡ fits lent named (topicBy (nameIn text) x)
+  unfolding fits topicBy
+  none-fits e = rw e
+
+  not-is : (b : Bool) → not b ≡ pick b false true
+  not-is true = refl
+  not-is false = refl
+
+  one-fits : {name : Name} {bytes : List ℕ} {many : Bool} → x ≡ Is name → bytes ≡ partOf text (name .start) (name .start + name .length) →
+      many ≡ tooMany lent named bytes → not many ≡ fits lent named (topicBy (nameIn text) x)
+  unfolding fits topicBy nameIn
+  one-fits {name} e b m = rw (e, m, b) (not-is (tooMany lent named (partOf text (name .start) (name .start + name .length))))
+
+pub fits-behind-spec : {M : Type 1} → statement M
+fits-behind-spec =
+    tie.close
+    (tie.spec
+    (λ c. search needs)
+    (λ c. search needs)
+    (λ c. search needs)
+    (λ c. search needs)
+    (λ c. search needs)
+    (λ c κs. search needs)
+    (λ c κs. search needs)
+    (λ c. search none-fits)
+    (λ c. search one-fits))

@@ -1,0 +1,4 @@
+pub mod Topic
+pub mod Topics
+pub mod Ranges
+pub mod Kept
