@@ -18,7 +18,7 @@ use Rattle.model.specs.declared.Condition.{Condition}
 use Rattle.language.specs.grammar.Expr.{Reading-of, Value-of}
 use Rattle.language.specs.grammar.Trigger.{Event-of, Trigger-of}
 use Rattle.language.specs.grammar.Condition.{Operand-of, Condition-of}
-use Rattle.language.specs.grammar.Text.{Repeated, When-section, If-section, Reading-with}
+use Rattle.language.specs.grammar.Text.{Repeated, When-section, Conditions-of, If-section, Reading-with}
 
 event-in : {t : ℕ → Tok} {i j : ℕ} {e : Event} → Event-of t i e j → Event-in-range e
 unfolding Event-in-range
@@ -111,7 +111,7 @@ module _ {t : ℕ → Tok} {view : View} {range : ℕ → Name} (sees : View-in-
 
   if-in : {i j : ℕ} {ys : List Condition} → If-section t view range i ys j → Each Condition-in-range ys
   if-in If-section.no-if = Each.none
-  if-in (If-section.conditions w h r few) = Each.more (condition-in h) (repeated-in (λ i j y g. condition-in g) r)
+  if-in (If-section.conditions w (Conditions-of.joined h r few)) = Each.more (condition-in h) (repeated-in (λ i j y g. condition-in g) r)
 
   all-in : {xs : List Trigger} {ys : List Condition} → Reading-with t view range xs ys → In-range xs ys
   all-in (Reading-with.reading h g e) = record { triggers = when-in h; conditions = if-in g }

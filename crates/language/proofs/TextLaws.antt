@@ -23,7 +23,7 @@ use Rattle.language.specs.Section.{repeated, Topics, triggerNamed, whenS
 use Rattle.language.specs.Topics.{topicOf, topicsOf}
 use Rattle.language.specs.grammar.Trigger.{Trigger-of}
 use Rattle.language.specs.grammar.Condition.{Condition-of}
-use Rattle.language.specs.grammar.Text.{Repeated, end, more, When-section, whens, If-section, no-if, conditions, Reading-with, reading}
+use Rattle.language.specs.grammar.Text.{Repeated, end, more, When-section, whens, joined, If-section, no-if, conditions, Reading-with, reading}
 use Rattle.model.specs.declared.Name.{Name}
 use Rattle.model.specs.declared.Trigger.{Trigger}
 use Rattle.model.specs.declared.Condition.{Condition}
@@ -167,7 +167,7 @@ module _ (t : ℕ → Tok) (view : View) (range : ℕ → Name) (topics : Topics
       bind-ok G (repeated t (ascii "and") 39 (λ s. form) same-state tt 3 k) _
       (repeated-sound t (ascii "and") 39 (Condition-of t view range) (λ s. form) same-state Any-condition
       (λ s i. mapped _ (form i) (sound i) (λ y j h. (h, tt))) 3 tt k)
-      (λ ys l g. conditions (is-word t (ascii "if") i e) h (g .0) (g .1))))
+      (λ ys l g. conditions (is-word t (ascii "if") i e) (joined h (g .0) (g .1)))))
       (λ e. no-if)
 
   -- topics that are judged one by one fit, and those that fit are kept
@@ -236,7 +236,7 @@ module _ (t : ℕ → Tok) (view : View) (range : ℕ → Name) (topics : Topics
         ifSection t view range fuel i ≡ ok ys j
     unfolding ifSection sameBytes
     if-complete e no-if = rw (word-none t (ascii "if") refl e)
-    if-complete {j = j} e (conditions (a-word p q) h r few) =
+    if-complete {j = j} e (conditions (a-word p q) (joined h r few)) =
         let s : Unsigned t j = end-stops t j e .unsigned in
         let complete : (s : Unit {0}) (i j : ℕ) (x : Condition) → Unsigned t j → Condition-of t view range i x j → Any-condition s x →
         conditionAt t view range fuel i ≡ ok x j =
@@ -252,7 +252,7 @@ module _ (t : ℕ → Tok) (view : View) (range : ℕ → Name) (topics : Topics
 
     behind-when : {i j : ℕ} {ys : List Condition} → t j .kind ≡ 0 → If-section t view range i ys j → Behind-when i
     behind-when e no-if = the-end e
-    behind-when e (conditions w h r few) = an-if w
+    behind-when e (conditions w h) = an-if w
 
     -- a reading whose topics are allowed is what is answered
     pub rule-complete : {xs : List Trigger} {ys : List Condition} → Read-with xs ys →

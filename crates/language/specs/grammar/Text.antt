@@ -25,11 +25,15 @@ pub data When-section (t : ℕ → Tok) (view : View) (range : ℕ → Name) : �
   whens : {i j : ℕ} {xs : List Trigger} → Repeated t (ascii "when") (Trigger-of t view range) i xs j → 1 ≤ length xs → length xs ≤ mostTriggers →
       When-section t view range i xs j
 
--- at most four conditions (39)
+-- CONDITION "with up to three `and` CONDITION": at most four conditions (39)
+pub data Conditions-of (t : ℕ → Tok) (view : View) (range : ℕ → Name) : ℕ → List Condition → ℕ → Type 0 where
+  joined : {i j k : ℕ} {y : Condition} {ys : List Condition} → Condition-of t view range i y j →
+      Repeated t (ascii "and") (Condition-of t view range) j ys k → length ys ≤ mostAnds → Conditions-of t view range i (y ∷ ys) k
+
 pub data If-section (t : ℕ → Tok) (view : View) (range : ℕ → Name) : ℕ → List Condition → ℕ → Type 0 where
   no-if : {i : ℕ} → If-section t view range i [] i
-  conditions : {i j k l : ℕ} {y : Condition} {ys : List Condition} → Word t (ascii "if") i j → Condition-of t view range j y k →
-      Repeated t (ascii "and") (Condition-of t view range) k ys l → length ys ≤ mostAnds → If-section t view range i (y ∷ ys) l
+  conditions : {i j k : ℕ} {ys : List Condition} → Word t (ascii "if") i j → Conditions-of t view range j ys k →
+      If-section t view range i ys k
 
 -- "A reading of a text's tokens with a sheet is a list of triggers and one of conditions, the latter empty without `if`: one record for each,
 -- in order, by forms below that use up all the tokens, with 22 to 39 met where they apply." Each form's rule has the questions that apply to it;

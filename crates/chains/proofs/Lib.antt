@@ -1,0 +1,9 @@
+pub mod PlaceLaws
+pub mod WayLaws
+pub mod TableLaws
+pub mod OrderLaws
+pub mod VocabularyLaws
+pub mod GrammarComplete
+pub mod GrammarSound
+pub mod NextLaws
+pub mod Theorem
