@@ -210,6 +210,21 @@ uint32_t tergyosul_read_archive(const uint8_t *text, size_t text_length,
                                 uint32_t *answer, size_t answer_length);
 
 /*
+ * The shop's call: rules that shop staff may edit have only a safe part of the language. On an accepted reading each lamp,
+ * group, device and input device has to be named; a reference by its number is refused with 57, at that number. An instance
+ * group, a scene, an instance, a type and an adapter stay numbers. `broadcast` is refused with 58, at that word, and a
+ * reading of `event` with 59, at the word `event`; the event of a trigger, as `is event(data=5)`, is none. Of several the
+ * earliest place decides. The detail is 0, and the words have the records of all tokens. Everything else is as with
+ * tergyosul_read: what that one refuses this one refuses alike, and what this one accepts has the same answer there.
+ */
+uint32_t tergyosul_read_shop(const uint8_t *text, size_t text_length,
+                             const uint8_t *sheet, size_t sheet_length,
+                             const uint8_t *topics, size_t topics_length,
+                             uint8_t party, uint8_t primary,
+                             uint32_t *words, size_t words_length,
+                             uint32_t *answer, size_t answer_length);
+
+/*
  * The sheet's own primary adapter, which its first line names: 0 to 255, and 0 where it names none. A call that is to go
  * by it passes it on as its primary. Only the first line is looked at: whether the sheet is well formed, and whether that
  * adapter is the party's, the call says.

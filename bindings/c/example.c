@@ -1,13 +1,14 @@
 /*
  * Reads a rule with its name sheet and says what it has.
  *
- *   example RULE SHEET [TOPICS] [PARTY PRIMARY]
+ *   example [--shop] RULE SHEET [TOPICS] [PARTY PRIMARY]
  *
- * with the topics of earlier rules, one a line, or else with none, and for a party with its own primary adapter, or else
- * for party 0 with the sheet's.
+ * under the shop profile, or else as any rule, with the topics of earlier rules, one a line, or else with none, and for a
+ * party with its own primary adapter, or else for party 0 with the sheet's.
  * The exit status is 0 if the rule is accepted, 1 if it is refused, 2 for wrong usage or a file that cannot be read.
  */
 #include <stdio.h>
+#include <string.h>
 
 #include "tergyosul.h"
 
@@ -236,11 +237,17 @@ int main(int count, char **arguments)
     size_t text_length, sheet_length, topics_length = 0;
     uint32_t number, i;
     uint8_t party = 0, primary = 0;
-    const int has_party = count >= 5, has_topics = count == 4 || count == 6;
+    const int is_shop = count > 1 && strcmp(arguments[1], "--shop") == 0;
+    int has_party, has_topics;
 
+    /* from here on the option is not counted */
+    count -= is_shop;
+    arguments += is_shop;
+    has_party = count >= 5;
+    has_topics = count == 4 || count == 6;
     if (count < 3 || count > 6 ||
         (has_party && (!byte_of(arguments[count - 2], &party) || !byte_of(arguments[count - 1], &primary)))) {
-        fprintf(stderr, "usage: example RULE SHEET [TOPICS] [PARTY PRIMARY]\n");
+        fprintf(stderr, "usage: example [--shop] RULE SHEET [TOPICS] [PARTY PRIMARY]\n");
         return 2;
     }
     if (!load(arguments[1], text, &text_length) || !load(arguments[2], sheet, &sheet_length) ||
@@ -250,8 +257,9 @@ int main(int count, char **arguments)
     if (!has_party) {
         primary = (uint8_t)tergyosul_sheet_primary(sheet, sheet_length);
     }
-    number = tergyosul_read(text, text_length, sheet, sheet_length, topics, topics_length, party, primary, words,
-                            TERGYOSUL_TOKEN_WORDS, answer, TERGYOSUL_ANSWER_WORDS);
+    number = (is_shop ? tergyosul_read_shop : tergyosul_read)(text, text_length, sheet, sheet_length, topics, topics_length,
+                                                              party, primary, words, TERGYOSUL_TOKEN_WORDS, answer,
+                                                              TERGYOSUL_ANSWER_WORDS);
     if (number == TERGYOSUL_NO_ROOM) { /* not with an array of this length; answer was not written */
         fprintf(stderr, "there is no room for the answer\n");
         return 2;

@@ -1,4 +1,4 @@
-//! The four calls of the C library, and all that is unsafe in this crate.
+//! The five calls of the C library, and all that is unsafe in this crate.
 //!
 //! `include/tergyosul.h` asks four things of a caller. Each holds for every call from here, because the pointers and lengths
 //! are those of slices that are borrowed while the call runs:
@@ -32,6 +32,21 @@ extern "C" {
     ) -> u32;
 
     fn tergyosul_read_archive(
+        text: *const u8,
+        text_length: usize,
+        sheet: *const u8,
+        sheet_length: usize,
+        topics: *const u8,
+        topics_length: usize,
+        party: u8,
+        primary: u8,
+        words: *mut u32,
+        words_length: usize,
+        answer: *mut u32,
+        answer_length: usize,
+    ) -> u32;
+
+    fn tergyosul_read_shop(
         text: *const u8,
         text_length: usize,
         sheet: *const u8,
@@ -85,6 +100,26 @@ pub fn read_archive(text: &[u8], sheet: &[u8], call: Call<'_>, words: &mut [u32]
     // SAFETY: as above: five slices that are borrowed for the call, the two mutable ones apart from all others.
     unsafe {
         tergyosul_read_archive(
+            text.as_ptr(),
+            text.len(),
+            sheet.as_ptr(),
+            sheet.len(),
+            call.topics.as_ptr(),
+            call.topics.len(),
+            call.party.number,
+            call.party.primary,
+            words.as_mut_ptr(),
+            words.len(),
+            answer.as_mut_ptr(),
+            answer.len(),
+        )
+    }
+}
+
+pub fn read_shop(text: &[u8], sheet: &[u8], call: Call<'_>, words: &mut [u32], answer: &mut [u32]) -> u32 {
+    // SAFETY: as above: five slices that are borrowed for the call, the two mutable ones apart from all others.
+    unsafe {
+        tergyosul_read_shop(
             text.as_ptr(),
             text.len(),
             sheet.as_ptr(),

@@ -54,8 +54,8 @@ pub use rule::{
 };
 pub use token::{tokens, Token, RECORD_WORDS};
 
-/// How many words a caller lends for the tokens of a text, at least: 1,024 records. With fewer [`read`], [`read_archive`] and
-/// [`lex`] give refusal 2.
+/// How many words a caller lends for the tokens of a text, at least: 1,024 records. With fewer [`read`], [`read_archive`],
+/// [`read_shop`] and [`lex`] give refusal 2.
 pub const TOKEN_WORDS: usize = 1_024 * RECORD_WORDS;
 
 /// The length of an answer of the library's `tergyosul_lex`.
@@ -74,10 +74,8 @@ const LEX_WORDS: usize = 4;
 /// If the linked library gives an answer outside the layout of `include/tergyosul.h`. The proved library gives none, so
 /// that means that another one was linked.
 pub fn read<'a>(text: &[u8], sheet: &[u8], call: impl Into<Call<'a>>, words: &mut [u32]) -> Result<Rule, Refusal> {
-    let mut answer = [0; layout::ANSWER_WORDS];
-    let number = boundary::read(text, sheet, call.into(), words, &mut answer);
-    with_room(number)?;
-    layout::rule(&answer)
+    let call = call.into();
+    answered(|answer| boundary::read(text, sheet, call, words, answer))
 }
 
 /// Reads a rule text with a name sheet as the archive loader does: a repeated argument of `input(` replaces the earlier one.
@@ -104,10 +102,37 @@ pub fn read<'a>(text: &[u8], sheet: &[u8], call: impl Into<Call<'a>>, words: &mu
 ///
 /// As [`read`].
 pub fn read_archive<'a>(text: &[u8], sheet: &[u8], call: impl Into<Call<'a>>, words: &mut [u32]) -> Result<Rule, Refusal> {
-    let mut answer = [0; layout::ANSWER_WORDS];
-    let number = boundary::read_archive(text, sheet, call.into(), words, &mut answer);
-    with_room(number)?;
-    layout::rule(&answer)
+    let call = call.into();
+    answered(|answer| boundary::read_archive(text, sheet, call, words, answer))
+}
+
+/// Reads a rule text with a name sheet under the shop profile: rules that shop staff may edit have only a safe part of the
+/// language. On an accepted reading a reference to a lamp, group, device or input device by its number is refused with 57,
+/// `broadcast` with 58 and a reading of `event` with 59, at the number or the word; the earliest place decides. Everything
+/// else is as with [`read`]: what that one refuses is refused alike, and what is accepted here has the same lists there.
+///
+/// ```
+/// use tergyosul::Party;
+///
+/// let sheet = b"primary,0\nlamp,1,7,Till\n";
+/// let party = Party::of_sheet(sheet);
+/// let mut words = [0; tergyosul::TOKEN_WORDS];
+///
+/// let named = b"when lamp(\"Till\") turns on";
+/// let rule = tergyosul::read_shop(named, sheet, party, &mut words)?;
+/// assert_eq!(rule, tergyosul::read(named, sheet, party, &mut words)?);
+///
+/// let refusal = tergyosul::read_shop(b"when lamp(7) turns on", sheet, party, &mut words).unwrap_err();
+/// assert_eq!((refusal.number, refusal.line, refusal.column), (57, 1, 11));
+/// # Ok::<(), tergyosul::Refusal>(())
+/// ```
+///
+/// # Panics
+///
+/// As [`read`].
+pub fn read_shop<'a>(text: &[u8], sheet: &[u8], call: impl Into<Call<'a>>, words: &mut [u32]) -> Result<Rule, Refusal> {
+    let call = call.into();
+    answered(|answer| boundary::read_shop(text, sheet, call, words, answer))
 }
 
 /// Lexes a text alone, and gives the count of its tokens. Their records go to `words`, as [`read`] writes them.
@@ -129,6 +154,13 @@ pub fn lex(text: &[u8], words: &mut [u32]) -> Result<usize, Refusal> {
         return Err(Refusal { number, line, column, detail: 0 });
     }
     Ok(count as usize)
+}
+
+/// What a call that reads answers: it writes the words, and gives the number.
+fn answered(read: impl FnOnce(&mut [u32]) -> u32) -> Result<Rule, Refusal> {
+    let mut answer = [0; layout::ANSWER_WORDS];
+    with_room(read(&mut answer))?;
+    layout::rule(&answer)
 }
 
 /// The arrays above have room for the answer, so the proved library never says that there is none. Another one's word for it

@@ -501,6 +501,7 @@ fn no_room_for_the_answer() {
         assert_eq!(boundary::read(text, sheet, ZERO, &mut words, &mut []), boundary::NO_ROOM);
         assert_eq!(boundary::read(text, sheet, ZERO, &mut [], &mut answer), boundary::NO_ROOM);
         assert_eq!(boundary::read_archive(text, sheet, ZERO, &mut words, &mut answer), boundary::NO_ROOM);
+        assert_eq!(boundary::read_shop(text, sheet, ZERO, &mut words, &mut answer), boundary::NO_ROOM);
     }
     for text in [&b"when http trigger"[..], b"when @"] {
         assert_eq!(boundary::lex(text, &mut words, &mut answer[..LEX_WORDS - 1]), boundary::NO_ROOM);
@@ -587,12 +588,12 @@ fn lexing_refuses_what_is_not_utf8() {
 #[test]
 fn every_refusal_has_its_own_meaning() {
     let refusal = |number| Refusal { number, line: 2, column: 3, detail: 4 };
-    let known = |number| matches!(number, 1..=4 | 10..=13 | 15..=41 | 53 | 63..=66);
+    let known = |number| matches!(number, 1..=4 | 10..=13 | 15..=41 | 53 | 57..=59 | 63..=66);
     let mut meanings: Vec<&str> = (0..100).filter(|&n| known(n)).map(|n| refusal(n).meaning()).collect();
-    assert_eq!(meanings.len(), 40);
+    assert_eq!(meanings.len(), 43);
     meanings.sort();
     meanings.dedup();
-    assert_eq!(meanings.len(), 40);
+    assert_eq!(meanings.len(), 43);
     let unknown = refusal(0).meaning();
     assert!((0..100).all(|n| known(n) != (refusal(n).meaning() == unknown)));
     assert_eq!(refusal(3).to_string(), "sheet line 2: the sheet is not well formed (refusal 3)");

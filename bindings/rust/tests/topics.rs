@@ -8,12 +8,14 @@ const SEVEN: &str = "1\n2\n3\n4\n5\n6\n7";
 const EIGHT: &str = "1\n2\n3\n4\n5\n6\n7\n8";
 const TEN: &str = "1\n2\n3\n4\n5\n6\n7\n8\n9\ntill/close\n";
 
-/// The answer, which both calls give, with the same tokens.
+/// The answer, which all calls give, with the same tokens.
 fn read_bytes(text: &[u8], topics: &[u8]) -> Result<Rule, Refusal> {
-    let [mut words, mut archive_words] = [[9; TOKEN_WORDS]; 2];
+    let [mut words, mut archive_words, mut shop_words] = [[9; TOKEN_WORDS]; 3];
     let answer = tergyosul::read(text, SHEET, ZERO.with_topics(topics), &mut words);
     let archive = tergyosul::read_archive(text, SHEET, ZERO.with_topics(topics), &mut archive_words);
+    let shop = tergyosul::read_shop(text, SHEET, ZERO.with_topics(topics), &mut shop_words);
     assert_eq!((answer, words), (archive, archive_words));
+    assert_eq!((answer, words), (shop, shop_words));
     answer
 }
 

@@ -11,7 +11,7 @@ use tergyosul::{Call, Party};
 /// What every word holds before a call.
 const UNTOUCHED: u32 = u32::MAX;
 
-/// Either call of this crate.
+/// A call of this crate.
 type Read<'a> = fn(&[u8], &[u8], Call<'a>, &mut [u32]) -> Result<tergyosul::Rule, tergyosul::Refusal>;
 
 struct Case<'a> {
@@ -41,11 +41,12 @@ fn body<'a>(input: &mut &'a [u8], length: &str) -> &'a [u8] {
     body
 }
 
-/// The call of a habit. The shop's is the default one, as long as its profile has not landed.
+/// The call of a habit.
 fn read_by<'a>(habit: &str) -> Read<'a> {
     match habit {
-        "rule" | "shop" => tergyosul::read,
+        "rule" => tergyosul::read,
         "archive" => tergyosul::read_archive,
+        "shop" => tergyosul::read_shop,
         _ => panic!("{habit}"),
     }
 }

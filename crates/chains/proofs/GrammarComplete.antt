@@ -143,8 +143,8 @@ module _ (v : List ℕ) (pieces : Each (λ q. q < pieceCount) v) where
     lamp-good : {a b c d : Place} {i j : ℕ} {ref : Ref} → step a OPEN ≡ b → step b ZERO ≡ c → step b SIXTY-THREE ≡ c → step c CLOSE ≡ d →
         Lamp (chainTokens v) view i ref j → Good v j d → Good v i a
     lamp-good e f f′ h (r left (inside (name (quoted s x y)) c right ref)) g = absurd (no-kind refl tt s)
-    lamp-good e f f′ h (r left (inside (id n) (clause s w x y) right ref)) g = absurd (no-kind refl tt s)
-    lamp-good e f f′ h (r left (inside (id n) no-clause right (on-primary l))) g =
+    lamp-good e f f′ h (r left (inside (id n m) (clause s w x y) right ref)) g = absurd (no-kind refl tt s)
+    lamp-good e f f′ h (r left (inside (id n m) no-clause right (on-primary l))) g =
         sign (OPEN ∷ []) refl tt (e, tt) left (short-id f f′ n l (sign (CLOSE ∷ []) refl tt (h, tt) right g))
 
     signed-good : {s : Place} {i j : ℕ} {z : ℤ} → step s PLUS ≡ Sign → step s MINUS ≡ Sign → Signed (chainTokens v) INTEGER i z j → Good v j End →
@@ -169,7 +169,7 @@ module _ (v : List ℕ) (pieces : Each (λ q. q < pieceCount) v) where
     reading-good (Reading-of.of-sun w p (Sun-property.rise q)) g = absurd (no-word tt q)
     reading-good (Reading-of.of-sun w p (Sun-property.set q)) g = absurd (no-word tt q)
     reading-good (Reading-of.of-sun w p (Sun-property.is-up q)) g = absurd (no-word tt q)
-    reading-good (Reading-of.of-event w p q) g = absurd (no-word tt w)
+    reading-good (Reading-of.of-event w m p q) g = absurd (no-word tt w)
     reading-good (Reading-of.of-var w q) g = absurd (no-word tt w)
 
     value-good : {i j : ℕ} {x : Value} → Value-of (chainTokens v) view range i x j → Behind v j → Good v i Place.Compared

@@ -154,7 +154,7 @@ module _ (v : List ℕ) where
   short (inl h) = let e = number-of ZERO refl refl h in (kind-of ZERO refl refl h, omega arith)
   short (inr h) = let e = number-of SIXTY-THREE refl refl h in (kind-of SIXTY-THREE refl refl h, omega arith)
 
-  module _ (view : View) (range : ℕ → Name) where
+  module _ (view : View) (range : ℕ → Name) (ids : (i : ℕ) → view .allows i ≡ true) where
     lamp-of : {a b c d : Place} {i : ℕ} → moves a ≡ record { piece = OPEN; to = b } ∷ [] → mayEnd a 0 ≡ false →
         moves b ≡ record { piece = ZERO; to = c } ∷ record { piece = SIXTY-THREE; to = c } ∷ [] → mayEnd b 0 ≡ false →
         moves c ≡ record { piece = CLOSE; to = d } ∷ [] → mayEnd c 0 ≡ false → Good v i a →
@@ -165,7 +165,7 @@ module _ (v : List ℕ) where
         let right = one-of CLOSE mc ec (number .1) in
         let n = short (number .0) in (
           _,
-          r (kind-of OPEN refl refl (left .0)) (inside (id (n .0)) no-clause (kind-of CLOSE refl refl (right .0)) (on-primary (n .1))),
+          r (kind-of OPEN refl refl (left .0)) (inside (id (n .0) (ids (i + 1))) no-clause (kind-of CLOSE refl refl (right .0)) (on-primary (n .1))),
           right .1,
         )
 

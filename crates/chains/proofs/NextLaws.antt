@@ -43,19 +43,20 @@ chained-listed {v} c =
       some = c .some;
       few = c .few;
       pieces = all-pieces Start v (c .few) (c .ends);
-      accepted = λ view range. good-conditions v view range (c .few) (c .ends);
+      accepted = λ view range ids. good-conditions v view range ids (c .few) (c .ends);
     }
 
--- some sheet and some ranges
+-- some sheet in some call, and some ranges
 a-view : View
-a-view = record { primary = 0; listed = λ a. false; rows = []; repeats = false }
+a-view = record { primary = 0; listed = λ a. false; rows = []; repeats = false; allows = λ i. true }
 
 a-range : ℕ → Name
 a-range i = record { start = 0; length = 0 }
 
 pub listed-chained : {v : List ℕ} → Listed v → Chained v
+unfolding a-view
 listed-chained {v} l =
-    record { some = l .some; few = l .few; ends = conditions-good v (l .pieces) a-view a-range (l .accepted a-view a-range .1) }
+    record { some = l .some; few = l .few; ends = conditions-good v (l .pieces) a-view a-range (l .accepted a-view a-range (λ i. refl) .1) }
 
 -- what is built: those of v, the piece that is raised, and the rest filled up
 piece-behind : (v : List ℕ) (p low i : ℕ) (s : Place) (n : ℕ) → p < i → pieceAt v p low i s n ≡ least s 0 n

@@ -1,6 +1,7 @@
 -- Document 02, §13: which sequences of pieces are listed, in which order, and what the generator answers.
 use Prim.Native.Nat.{ℕ, _-_, _≤_, _<_}
 use mathlib.Core.Path.{_≡_}
+use mathlib.Core.Bool.{true}
 use mathlib.Core.List.{List, [], _∷_, _++_}
 use lib.ListN.{length, replicate}
 use Rattle.sheet.specs.View.{View}
@@ -15,12 +16,13 @@ use Rattle.chains.specs.declared.Chain.{Chain}
 abbrev pub mostPieces : ℕ
 mostPieces = 15
 
--- "every accepted chain of one to four conditions joined by `and`": the grammar reads all of its tokens as conditions, whatever the sheet
+-- "every accepted chain of one to four conditions joined by `and`": the grammar reads all of its tokens as conditions, whatever the sheet, in a
+-- call where an id may stand (View.antt)
 pub record Listed (v : List ℕ) : Type 0 where
   pub some : 1 ≤ length v
   pub few : length v ≤ mostPieces
   pub pieces : Each (λ q. q < pieceCount) v
-  pub accepted : (view : View) (range : ℕ → Name) → (ys : List Condition) × Conditions-of (chainTokens v) view range 0 ys (length v)
+  pub accepted : (view : View) (range : ℕ → Name) → ((i : ℕ) → view .allows i ≡ true) → (ys : List Condition) × Conditions-of (chainTokens v) view range 0 ys (length v)
 
 -- "by the vocabulary's order token by token"
 pub data Earlier : List ℕ → List ℕ → Type 0 where

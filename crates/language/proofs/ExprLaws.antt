@@ -99,12 +99,15 @@ module _ (t : ℕ → Tok) (view : View) (range : ℕ → Name) where
       point-choice-ok t G (ascii "rise set is_up") j _
       (λ a l point. ((λ m p. of-sun w point (rise p)), ((λ m p. of-sun w point (set p)), ((λ m p. of-sun w point (is-up p)), tt))))
 
-  event-reading-sound : {i j : ℕ} → Word t (ascii "event") i j → Okay (Reading-of t view range i) (eventReading t j)
+  event-reading-sound : {i j : ℕ} → Word t (ascii "event") i j → Okay (Reading-of t view range i) (eventReading t view i j)
   unfolding eventReading eventProperty wordsIn split
   event-reading-sound {i} {j} w =
       let G = Reading-of t view range i in
+      pick-ok G (view .allows i) _ _
+      (λ e.
       point-choice-ok t G (ascii "value device instance option") j _
-      (λ a l point. ((λ m p. of-event w point (event-value p)), ((λ m p. of-event w point (event-device p)), ((λ m p. of-event w point (event-instance p)), ((λ m p. of-event w point (event-option p)), tt)))))
+      (λ a l point. ((λ m p. of-event w e point (event-value p)), ((λ m p. of-event w e point (event-device p)), ((λ m p. of-event w e point (event-instance p)), ((λ m p. of-event w e point (event-option p)), tt))))))
+      (λ e. tt)
 
   var-reading-sound : {i j : ℕ} → Word t (ascii "var") i j → Okay (Reading-of t view range i) (varReading t range j)
   unfolding varReading
@@ -201,7 +204,7 @@ of-property (Res.no r) p f e = cc
 first-word : {t : ℕ → Tok} (view : View) (range : ℕ → Name) (fuel n : ℕ) {i j : ℕ} {word : List ℕ} → Word t word i j →
     placeIn word (wordsIn (ascii "lamp group input time sun event var")) ≡ n →
     hasPlace (wordsIn (ascii "lamp group input time sun event var")) n ≡ true →
-    readingAt t view range fuel i ≡ readingBy t view range fuel n j
+    readingAt t view range fuel i ≡ readingBy t view range fuel i n j
 unfolding readingAt
 first-word {t} view range fuel n w e h = rw (choice-complete t (ascii "lamp group input time sun event var") 20 w e h)
 
@@ -219,8 +222,8 @@ reading-complete {t} end (of-time {j = j} w point p) =
     rw (first-word _ _ _ 3 w refl refl) (of-property (pointChoice t (ascii "now hour minute weekday") j) timeProperty Reading.Time (time-property point p))
 reading-complete {t} end (of-sun {j = j} w point p) =
     rw (first-word _ _ _ 4 w refl refl) (of-property (pointChoice t (ascii "rise set is_up") j) sunProperty Reading.Sun (sun-property point p))
-reading-complete {t} end (of-event {j = j} w point p) =
-    rw (first-word _ _ _ 5 w refl refl) (of-property (pointChoice t (ascii "value device instance option") j) eventProperty Reading.Event (event-property point p))
+reading-complete {t} end (of-event {j = j} w e point p) =
+    rw (first-word _ _ _ 5 w refl refl, e) (of-property (pointChoice t (ascii "value device instance option") j) eventProperty Reading.Event (event-property point p))
 reading-complete end (of-var w q) = rw (first-word _ _ _ 6 w refl refl, quoted-complete q)
 
 -- a reading begins with a word
@@ -230,7 +233,7 @@ reading-kind (of-group w h point p) = word-kind w
 reading-kind (of-input w h point p) = word-kind w
 reading-kind (of-time w point p) = word-kind w
 reading-kind (of-sun w point p) = word-kind w
-reading-kind (of-event w point p) = word-kind w
+reading-kind (of-event w e point p) = word-kind w
 reading-kind (of-var w q) = word-kind w
 
 -- a reading, whatever follows it

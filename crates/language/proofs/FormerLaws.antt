@@ -28,7 +28,7 @@ use Rattle.model.specs.declared.Name.{Name}
 use Rattle.model.specs.declared.Answer.{Answer}
 use Rattle.language.specs.Range.{rangeOf}
 use Rattle.language.specs.Section.{Lists, ruleAt}
-use Rattle.language.specs.Read.{parsed, topicsWith, ruleOf, lexedFrom, byPrimary, byText, bySheet, readOf}
+use Rattle.language.specs.Read.{parsed, topicsWith, onAccepted, anywhere, ruleOf, lexedFrom, byPrimary, byText, bySheet, readOf}
 
 -- ---- buffers of different lengths
 
@@ -71,9 +71,12 @@ tokenOf text r =
 abbrev pub rangeIn : Record → Name
 rangeIn r = record { start = r .start; length = r .length }
 
-unfoldable pub formerRuleOf : List ℕ → List ℕ → View → List ℕ → Res Lists
-formerRuleOf text words view lent =
+unfoldable pub formerRuleAt : List ℕ → List ℕ → View → List ℕ → Res Lists
+formerRuleAt text words view lent =
     ruleAt (λ i. tokenOf text (formerRecordAt words i)) view (λ i. rangeIn (formerRecordAt words i)) (topicsWith text lent) (formerCapacity words)
+
+unfoldable pub formerRuleOf : List ℕ → List ℕ → View → List ℕ → Res Lists
+formerRuleOf text words view lent = onAccepted (formerRuleAt text words (anywhere view) lent) (formerRuleAt text words view lent)
 
 unfoldable pub formerLexedFrom : List ℕ → View → List ℕ → Lexing → Lexing → Answer
 formerLexedFrom text view lent whole (ended p) = parsed whole (formerRuleOf text (formerWords whole) view lent)
@@ -101,7 +104,7 @@ formerAnswer call text sheet lent size =
 
 module _ (text : List ℕ) (view : View) (lent words : List ℕ) (short : length text ≤ mostBytes) where
   former-rule : ruleOf text (recordWords (lexText text)) view lent ≡ formerRuleOf text (formerWords (lexText text)) view lent
-  unfolding ruleOf tokens rangeOf bytesAt recordAt formerRuleOf
+  unfolding ruleOf tokens rangeOf bytesAt recordAt formerRuleOf formerRuleAt
   former-rule =
       let now = recordWords (lexText text) in
       let then = formerWords (lexText text) in

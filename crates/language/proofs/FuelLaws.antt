@@ -17,7 +17,7 @@ use Rattle.language.specs.Trigger.{inputTrigger, triggerBy, triggerAt}
 use Rattle.language.specs.Condition.{lampCompared, lampPoint, lampState, lampCondition, lightThan, inputState, inputCondition, operandAt, varCompared, varCondition, conditionBy, conditionAt}
 use Rattle.language.specs.Section.{Topics, triggerNamed, whenSection, ifSection, ruleAt}
 use Rattle.language.specs.Range.{rangeOf}
-use Rattle.language.specs.Read.{topicsWith, ruleOf}
+use Rattle.language.specs.Read.{topicsWith, ruleIn, onAccepted, anywhere, ruleOf}
 use Rattle.language.proofs.WordLaws.{End}
 
 -- no token stands at n or behind it, and both counts are at least n
@@ -53,8 +53,14 @@ module _ (t : ℕ → Tok) (view : View) (range : ℕ → Name) {n m k : ℕ} (e
       rw (named topics, conditions, condition)
 
 -- a call gives the number of its records as that count: no larger one would change its answer
-pub call-fuel : (text words : List ℕ) (view : View) (lent : List ℕ) (k : ℕ) → capacity words ≤ k →
-    ruleOf text words view lent ≡ ruleAt (tokens text words) view (rangeOf words) (topicsWith text lent) k
-unfolding ruleOf
-call-fuel text words view lent k h =
+rule-in-fuel : (text words : List ℕ) (view : View) (lent : List ℕ) (k : ℕ) → capacity words ≤ k →
+    ruleIn text words view lent ≡ ruleAt (tokens text words) view (rangeOf words) (topicsWith text lent) k
+rule-in-fuel text words view lent k h =
     rule-fuel (tokens text words) view (rangeOf words) (no-token text words) (omega arith) h (topicsWith text lent)
+
+pub call-fuel : (text words : List ℕ) (view : View) (lent : List ℕ) (k : ℕ) → capacity words ≤ k →
+    ruleOf text words view lent ≡
+    onAccepted (ruleAt (tokens text words) (anywhere view) (rangeOf words) (topicsWith text lent) k)
+    (ruleAt (tokens text words) view (rangeOf words) (topicsWith text lent) k)
+unfolding ruleOf
+call-fuel text words view lent k h = rw (rule-in-fuel text words (anywhere view) lent k h, rule-in-fuel text words view lent k h)

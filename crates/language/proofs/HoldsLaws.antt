@@ -12,8 +12,6 @@ use Rattle.text.specs.Place.{checkOf}
 use Rattle.text.specs.declared.place.Checked.{Checked}
 use Rattle.text.specs.declared.place.Checked.the-variants.{WellFormed, IllFormed}
 use Rattle.tokens.specs.Result.{Res, ok, no}
-use Rattle.tokens.specs.Cursor.{tokens}
-use Rattle.tokens.specs.Record.{capacity}
 use Rattle.tokens.specs.Lex.{Lexing, lexText, mostBytes, leastWords}
 use Rattle.tokens.specs.Ended.{recordWords}
 use Rattle.tokens.specs.Layout.{Laid, end, refusal, next}
@@ -26,10 +24,9 @@ use Rattle.sheet.specs.declared.Call.{Call}
 use Rattle.model.specs.Lists.{acceptedWith, refusedWith}
 use Rattle.model.specs.declared.Answer.{Answer}
 use Rattle.references.proofs.NumberLaws.{Refuses, refusal-late}
-use Rattle.language.specs.Range.{rangeOf}
 use Rattle.language.specs.Section.{Lists}
-use Rattle.language.specs.Read.{parsed, topicsWith, ruleOf, lexedFrom, byPrimary, byText, bySheet, Outcome, readOf}
-use Rattle.language.proofs.RefusalLaws.{rule-refuses}
+use Rattle.language.specs.Read.{parsed, ruleOf, lexedFrom, byPrimary, byText, bySheet, Outcome, readOf}
+use Rattle.language.proofs.RefusalLaws.{call-refuses}
 
 -- neither the parser nor the lexer answers with the number of a question that is asked first
 parsed-late : (l : Lexing) (m : Res Lists) → Refuses m → isAskedFirst (parsed l m .number) ≡ false
@@ -40,10 +37,9 @@ parsed-late l (no r) h =
 
 lexed-late : {text : List ℕ} {before : List Character} (view : View) (lent : List ℕ) (whole : Lexing) {l : Lexing} → Laid text before l →
     isAskedFirst (lexedFrom text view lent whole l .number) ≡ false
-unfolding lexedFrom refusedWith ruleOf
+unfolding lexedFrom refusedWith
 lexed-late {text} view lent whole (end gap t h) =
-    let words = recordWords whole in
-    parsed-late whole (ruleOf text words view lent) (rule-refuses (tokens text words) view (rangeOf words) (topicsWith text lent) (capacity words))
+    let words = recordWords whole in parsed-late whole (ruleOf text words view lent) (call-refuses text words view lent)
 lexed-late view lent whole (refusal gap c rest t h n) = lexical-late n
 lexed-late view lent whole (next gap u rest t s h k) = lexed-late view lent whole k
 

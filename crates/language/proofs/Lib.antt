@@ -10,8 +10,10 @@ pub mod TextLaws
 pub mod RefusalLaws
 pub mod RangeLaws
 pub mod FuelLaws
+pub mod AskedLaws
 pub mod HabitLaws
 pub mod Theorem
+pub mod ProfileTheorem
 pub mod HoldsLaws
 pub mod IsolationLaws
 pub mod FormerLaws

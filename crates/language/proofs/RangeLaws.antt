@@ -49,7 +49,7 @@ module _ {t : ℕ → Tok} {view : View} {range : ℕ → Name} (sees : View-in-
   reading-in (Reading-of.of-input w r p h) = one-instance-in sees r
   reading-in (Reading-of.of-time w p h) = tt
   reading-in (Reading-of.of-sun w p h) = tt
-  reading-in (Reading-of.of-event w p h) = tt
+  reading-in (Reading-of.of-event w e p h) = tt
   reading-in (Reading-of.of-var w q) = tt
 
   value-in : {i j : ℕ} {v : Value} → Value-of t view range i v j → Value-in-range v

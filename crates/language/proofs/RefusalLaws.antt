@@ -3,7 +3,7 @@ use Prim.Native.Nat.{ℕ, zero, suc}
 use mathlib.Core.Path.{_≡_}
 use mathlib.Core.Bool.{true}
 use mathlib.Core.List.{List, [], _∷_}
-use Rattle.tokens.specs.Result.{Res}
+use Rattle.tokens.specs.Result.{Res, ok, no}
 use Rattle.tokens.specs.Cursor.{Tok}
 use Rattle.tokens.specs.Phrase.{choiceBy, choiceAt, takeWords, phraseAt, eitherAt, pointChoice, phraseChoice, pointPhrase}
 use Rattle.sheet.specs.View.{View}
@@ -16,7 +16,8 @@ use Rattle.language.specs.Timeval.{offsetBound, offsetAt, withOffset, so
 use Rattle.language.specs.Expr.{lampReading, groupReading, inputReading, timeReading, sunReading, eventReading, varReading, readingBy, readingAt, literalAt, deltaAt, withDelta, readValue, valueAt}
 use Rattle.language.specs.Trigger.{timerTrigger, ruleTrigger, controllerTrigger, httpTrigger, mqttTrigger, everyTrigger, atBound, atTrigger, sceneClosed, sceneTrigger, deviceTrigger, groupTrigger, hclTrigger, levelCross, lampChange, lampTrigger, inputDeviceTrigger, rawData, rawEvent, eventAt, inputEvent, inputBecomes, lightCross, positionChange, propertyTrigger, pointTrigger, inputChange, inputTrigger, triggerBy, triggerAt}
 use Rattle.language.specs.Condition.{comparisonBy, comparisonAt, controllerCondition, timerCondition, ruleCondition, lastFiredCondition, deviceCondition, sunCondition, timeTo, timeCondition, groupCondition, hclCondition, lampJudged, lampCompared, lampPoint, lampState, lampCondition, lightThan, inputState, inputCondition, textOperand, operandAt, varCompared, varCondition, conditionBy, conditionAt}
-use Rattle.language.specs.Section.{repeated, Topics, triggerNamed, whenSection, ifSection, atEnd, ruleAt}
+use Rattle.language.specs.Section.{Lists, repeated, Topics, triggerNamed, whenSection, ifSection, atEnd, ruleAt}
+use Rattle.language.specs.Read.{onAccepted, ruleOf}
 use Rattle.language.proofs.TopicLaws.{topic-refuses}
 
 -- the steps that several forms share, and time bounds
@@ -121,6 +122,16 @@ unfolding triggerNamed
 judged-refuses t view range topics fuel named i = search (refusals, trigger-refuses)
 
 -- every refusal of a rule has one of these numbers
-pub rule-refuses : (t : ℕ → Tok) (view : View) (range : ℕ → Name) (topics : Topics) (fuel : ℕ) → Refuses (ruleAt t view range topics fuel)
+rule-refuses : (t : ℕ → Tok) (view : View) (range : ℕ → Name) (topics : Topics) (fuel : ℕ) → Refuses (ruleAt t view range topics fuel)
 unfolding ruleAt whenSection ifSection atEnd
 rule-refuses t view range topics fuel = search (refusals, repeated-refuses, judged-refuses, condition-refuses) depth 9
+
+-- and so has every refusal of a call that its tokens get
+accepted-refuses : (full judged : Res Lists) → Refuses full → Refuses judged → Refuses (onAccepted full judged)
+unfolding onAccepted Refuses
+accepted-refuses (ok lists i) judged h g = g
+accepted-refuses (no r) judged h g = h
+
+pub call-refuses : (text words : List ℕ) (view : View) (lent : List ℕ) → Refuses (ruleOf text words view lent)
+unfolding ruleOf
+call-refuses text words view lent = accepted-refuses _ _ (rule-refuses _ _ _ _ _) (rule-refuses _ _ _ _ _)

@@ -2,7 +2,7 @@
 -- a sheet, lent topics and a buffer of size words it says: the call is accepted exactly when the text has a reading with what the call sees of the sheet; then it
 -- has that reading's lists; no text has two readings; and durations are exactly what is written. Document 02: "Demands 2 and 3 and the grammar now
 -- speak of the party's rows and the call's primary, in calls whose primary is the party's" (§6), and "demand 3 covers each" habit with repeated
--- arguments (§11): the grammar has both from what the call sees. proofs/Theorem.antt shows it of the definition of the
+-- arguments (§11): the grammar has both from what the call sees, and so it has the shop profile (§9). proofs/Theorem.antt shows it of the definition of the
 -- call (Read.antt), and `read` promises it of the code.
 use Prim.Native.Nat.{ℕ, _≤_}
 use mathlib.Core.Path.{_≡_}
@@ -18,7 +18,7 @@ use Rattle.tokens.specs.Layout.{Duration}
 use Rattle.tokens.specs.Lex.{Lexing, lexFrom, lexText, mostTokens, mostBytes, leastWords}
 use Rattle.tokens.specs.Ended.{Ended, recordWords}
 use Rattle.sheet.specs.Sheet.{Sheet, well-formed, sheetCheck}
-use Rattle.sheet.specs.View.{seen, ownPrimary}
+use Rattle.sheet.specs.View.{View, seen, ownPrimary}
 use Rattle.sheet.specs.declared.Call.{Call}
 use Rattle.topics.specs.Topics.{lentTopics, Allowed}
 use Rattle.topics.specs.Ranges.{nameIn}
@@ -45,7 +45,7 @@ pub record Gives (text : List ℕ) (l : Lexing) (count : ℕ) : Type 0 where
 
 -- "A reading of a text's tokens with a sheet is a list of triggers and one of conditions": which ones the tokens have, the grammar says
 -- (grammar/Text.antt). What else is asked of a call is met: 2, 3, 19, 53 and 66.
-pub record Has-reading (call : Call) (text sheet lent : List ℕ) (size : ℕ) (xs : List Trigger) (ys : List Condition) : Type 0 where
+pub record Has-reading-seeing (view : View) (call : Call) (text sheet lent : List ℕ) (size : ℕ) (xs : List Trigger) (ys : List Condition) : Type 0 where
   pub room : leastWords ≤ size
   pub sheet-passes : sheetCheck sheet ≡ well-formed
   pub own : ownPrimary call sheet ≡ true
@@ -53,9 +53,12 @@ pub record Has-reading (call : Call) (text sheet lent : List ℕ) (size : ℕ) (
   pub count : ℕ
   pub gives : Gives text lexing count
   pub few : count ≤ mostTokens
-  pub reading : Reading-with (tokens text (recordWords lexing)) (seen call sheet) (rangeOf (recordWords lexing)) xs ys
+  pub reading : Reading-with (tokens text (recordWords lexing)) view (rangeOf (recordWords lexing)) xs ys
   -- document 02, §12: "A reading needs this too": where the text names a topic that is not lent, its topics and the lent come to at most eight
   pub topics : Allowed (lentTopics lent) (topicsOf (nameIn text) xs)
+
+abbrev pub Has-reading : Call → List ℕ → List ℕ → List ℕ → ℕ → List Trigger → List Condition → Type 0
+Has-reading call text sheet lent size xs ys = Has-reading-seeing (seen call sheet) call text sheet lent size xs ys
 
 -- an answer with number 0: it has the lists of a reading, and in these no reference is out of its kind's range
 pub record Accepts (call : Call) (text sheet lent : List ℕ) (size : ℕ) (answer : Answer) : Type 0 where

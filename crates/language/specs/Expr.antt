@@ -4,7 +4,7 @@ use mathlib.Core.Bool.{Bool, true, false}
 use lib.Dec.{eqb}
 use Rattle.text.specs.Choice.{pick}
 use Rattle.text.specs.Literal.{ascii}
-use Rattle.tokens.specs.Result.{Res, ok, bind, perhaps}
+use Rattle.tokens.specs.Result.{Res, ok, bind, perhaps, refuse}
 use Rattle.tokens.specs.Kind.{INTEGER, PLUS, MINUS}
 use Rattle.tokens.specs.Cursor.{Tok, isKind, takeKind}
 use Rattle.tokens.specs.Phrase.{choiceAt, pointChoice}
@@ -78,28 +78,31 @@ eventProperty n =
     pick (eqb n 0) EventReading.Value
     (pick (eqb n 1) EventReading.Device (pick (eqb n 2) EventReading.Instance EventReading.Option))
 
-unfoldable pub eventReading : (ℕ → Tok) → ℕ → Res Reading
-eventReading t i =
-    bind (pointChoice t (ascii "value device instance option") i) (λ n j. ok (Reading.Event (eventProperty n)) j)
+-- behind the word `event` at an index; document 02, §9: "an `event` reading with 59", at "the word"
+unfoldable pub eventReading : (ℕ → Tok) → View → ℕ → ℕ → Res Reading
+eventReading t view word i =
+    pick (view .allows word)
+    (bind (pointChoice t (ascii "value device instance option") i) (λ n j. ok (Reading.Event (eventProperty n)) j))
+    (refuse 59 word)
 
 -- "var Q": its name as a range of the text
 unfoldable pub varReading : (ℕ → Tok) → (ℕ → Name) → ℕ → Res Reading
 varReading t range i = bind (quotedName t i) (λ n j. ok (Reading.Var (range n)) j)
 
--- the reading with the n-th first word, behind it
-unfoldable pub readingBy : (ℕ → Tok) → View → (ℕ → Name) → ℕ → ℕ → ℕ → Res Reading
-readingBy t view range fuel n i =
+-- the reading with the n-th first word, which stands at an index; i is behind it
+unfoldable pub readingBy : (ℕ → Tok) → View → (ℕ → Name) → ℕ → ℕ → ℕ → ℕ → Res Reading
+readingBy t view range fuel word n i =
     pick (eqb n 0) (lampReading t view i)
     (pick (eqb n 1) (groupReading t view i)
     (pick (eqb n 2) (inputReading t view fuel i)
     (pick (eqb n 3) (timeReading t i)
     (pick (eqb n 4) (sunReading t i)
-    (pick (eqb n 5) (eventReading t i) (varReading t range i))))))
+    (pick (eqb n 5) (eventReading t view word i) (varReading t range i))))))
 
 -- another word is refused with 20, "also where TARGET or VALUE begins"
 unfoldable pub readingAt : (ℕ → Tok) → View → (ℕ → Name) → ℕ → ℕ → Res Reading
 readingAt t view range fuel i =
-    bind (choiceAt t (ascii "lamp group input time sun event var") 20 i) (λ n j. readingBy t view range fuel n j)
+    bind (choiceAt t (ascii "lamp group input time sun event var") 20 i) (λ n j. readingBy t view range fuel i n j)
 
 -- "an integer with perhaps one sign"
 unfoldable pub literalAt : (ℕ → Tok) → Bool → ℕ → Res Value

@@ -9,5 +9,6 @@ pub mod Topics
 pub mod Section
 pub mod Read
 pub mod Demand
+pub mod Profile
 pub mod Isolation
 pub mod grammar

@@ -17,7 +17,7 @@ use Rattle.tokens.specs.Ended.{recordWords, tokenLine, tokenColumn}
 use Rattle.sheet.specs.Sheet.{Sheet, well-formed, bad-line, sheetCheck}
 use Rattle.sheet.specs.View.{View, seen, ownPrimary}
 use Rattle.sheet.specs.declared.Call.{Call}
-use Rattle.sheet.specs.declared.Habit.the-variants.{Rule, Archive}
+use Rattle.sheet.specs.declared.Habit.the-variants.{Rule, Archive, Shop}
 use Rattle.topics.specs.Topics.{lentTopics}
 use Rattle.topics.specs.Ranges.{nameIn}
 use Rattle.model.specs.Lists.{acceptedWith, refusedWith}
@@ -34,8 +34,21 @@ parsed l (no r) = refusedWith (r .number) (tokenLine l (r .token)) (tokenColumn 
 abbrev pub topicsWith : List ℕ → List ℕ → Topics
 topicsWith text lent = record { lent = lentTopics lent; written = nameIn text }
 
+-- the rule in the records, with what is seen
+abbrev pub ruleIn : List ℕ → List ℕ → View → List ℕ → Res Lists
+ruleIn text words view lent = ruleAt (tokens text words) view (rangeOf words) (topicsWith text lent) (capacity words)
+
+-- document 02, §9: "Judge it on an accepted reading": what is answered, by what is answered if the forms that the profile leaves out may stand anywhere
+unfoldable pub onAccepted : Res Lists → Res Lists → Res Lists
+onAccepted (ok lists i) judged = judged
+onAccepted (no r) judged = no r
+
+abbrev pub anywhere : View → View
+anywhere view =
+    record { primary = view .primary; listed = view .listed; rows = view .rows; repeats = view .repeats; allows = λ i. true }
+
 unfoldable pub ruleOf : List ℕ → List ℕ → View → List ℕ → Res Lists
-ruleOf text words view lent = ruleAt (tokens text words) view (rangeOf words) (topicsWith text lent) (capacity words)
+ruleOf text words view lent = onAccepted (ruleIn text words (anywhere view) lent) (ruleIn text words view lent)
 
 -- "the whole text is lexed before any parsing": l is what is left of the lexing, whole the whole of it
 unfoldable pub lexedFrom : List ℕ → View → List ℕ → Lexing → Lexing → Answer
@@ -71,9 +84,12 @@ readOf call text sheet lent words =
     (pick (ltb (length words) leastWords) (record { answer = refusedWith 2 0 0 0; buffer = words })
     (bySheet text (seen call sheet) lent words (ownPrimary call sheet) (sheetCheck sheet)))
 
--- the default call of a party, and the archive loader's
+-- the default call of a party, the archive loader's, and the one under the shop profile
 abbrev pub ruleCall : ℕ → ℕ → Call
 ruleCall party primary = record { habit = Rule; party = party; primary = primary }
 
 abbrev pub archiveCall : ℕ → ℕ → Call
 archiveCall party primary = record { habit = Archive; party = party; primary = primary }
+
+abbrev pub shopCall : ℕ → ℕ → Call
+shopCall party primary = record { habit = Shop; party = party; primary = primary }

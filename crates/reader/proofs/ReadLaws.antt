@@ -17,7 +17,6 @@ use Rattle.text.specs.declared.place.Checked.{Checked}
 use Rattle.text.specs.declared.place.Checked.the-variants.{WellFormed, IllFormed}
 use Rattle.tokens.specs.Result.{Res, ok, no}
 use Rattle.tokens.specs.Record.{recordSize, capacity, lineAt, columnAt}
-use Rattle.tokens.specs.Cursor.{tokens}
 use Rattle.tokens.specs.Lex.{Lexing, ended, refused, token, lexText, answerFrom, writtenFrom, answerBy, wordsBy, lexAnswer, lexWords, mostTokens, mostBytes, leastWords}
 use Rattle.tokens.specs.declared.cursor.Refusal.{Refusal}
 use Rattle.tokens.specs.declared.lexer.Lexed.{Lexed}
@@ -37,18 +36,18 @@ use Rattle.sheet.specs.declared.rows.Verdict.the-variants.{BadLine}
 use Rattle.sheet.proofs.AdapterLaws.{has-packed}
 use Rattle.sheet.proofs.SurveyLaws.{survey-bad, survey-well}
 use Rattle.sheet.proofs.ViewLaws.{seen-settings}
-use Rattle.language.specs.Range.{rangeOf}
-use Rattle.language.specs.Section.{Lists, ruleAt}
+use Rattle.language.specs.Section.{Lists}
 use Rattle.tokens.specs.Ended.{Ended, recordWords, tokenLine, tokenColumn}
 use Rattle.tokens.specs.Placed.{All-in-word}
 use Rattle.model.specs.Lists.{triggersOf, conditionsOf, acceptedWith, refusedWith}
-use Rattle.language.specs.Read.{parsed, topicsWith, ruleOf, lexedFrom, byPrimary, byText, bySheet, Outcome, readOf}
+use Rattle.language.specs.Read.{parsed, ruleOf, lexedFrom, byPrimary, byText, bySheet, Outcome, readOf}
 use Rattle.language.specs.Demand.{Exact}
 use Rattle.tokens.specs.Buffer.{Holds, frontOf}
 use Rattle.model.specs.declared.Triggers.{Triggers}
 use Rattle.model.specs.declared.Conditions.{Conditions}
 use Rattle.model.specs.declared.Answer.{Answer}
-use Rattle.language.proofs.Theorem.{lexed-complete, few, exact}
+use Rattle.language.proofs.AskedLaws.{lexed-complete}
+use Rattle.language.proofs.Theorem.{few, exact}
 use Rattle.language.proofs.HoldsLaws.{read-holds}
 use Rattle.reader.specs.Parts.{toRule, placed, answered, notOwn}
 use Rattle.reader.specs.declared.parts.Rule.{Rule}
@@ -233,11 +232,7 @@ module _ (words : List ℕ) (line column : ℕ) (refusal : Refusal) {count : ℕ
 
 -- the parser's answer on the records
 module _ (settings : Settings) (text words sheet lent : List ℕ) (line column : ℕ) {rule : Rule}
-    (read : rule ≡ toRule (ruleAt (tokens text words) (viewOf settings sheet) (rangeOf words) (topicsWith text lent) (capacity words))) where
-  rule-is : rule ≡ toRule (ruleOf text words (viewOf settings sheet) lent)
-  unfolding ruleOf
-  rule-is = read
-
+    (read : rule ≡ toRule (ruleOf text words (viewOf settings sheet) lent)) where
   yes-by : (m : Res Lists) → rule ≡ toRule m → rule .accepted ≡ true →
       record { number = 0; line = 0; column = 0; detail = 0; triggers = rule .triggers; conditions = rule .conditions } ≡ answered words line column m
   unfolding toRule answered acceptedWith
@@ -256,11 +251,11 @@ module _ (settings : Settings) (text words sheet lent : List ℕ) (line column :
   pub parsed-yes : rule .accepted ≡ true →
       record { number = 0; line = 0; column = 0; detail = 0; triggers = rule .triggers; conditions = rule .conditions } ≡
       answered words line column (ruleOf text words (viewOf settings sheet) lent)
-  parsed-yes h = yes-by (ruleOf text words (viewOf settings sheet) lent) rule-is h
+  parsed-yes h = yes-by (ruleOf text words (viewOf settings sheet) lent) read h
 
   pub parsed-no : {a : Answer} → rule .accepted ≡ false → a ≡ placed words line column (rule .refusal) →
       a ≡ answered words line column (ruleOf text words (viewOf settings sheet) lent)
-  parsed-no h w = no-by (ruleOf text words (viewOf settings sheet) lent) rule-is h w
+  parsed-no h w = no-by (ruleOf text words (viewOf settings sheet) lent) read h w
 
 -- a call whose primary adapter is not its party's
 pub not-own-by : (x : Checked) {r v : Checked} {a : Answer} → r ≡ x → r ≡ v → a ≡ notOwn v → a ≡ notOwn x

@@ -11,6 +11,8 @@ use Rattle.tokens.specs.Result.{Res, ok, no, refuse}
 use Rattle.tokens.specs.Record.{capacity, lineAt, columnAt}
 use Rattle.tokens.specs.Cursor.{Tok, at}
 use Rattle.tokens.specs.declared.cursor.Refusal.{Refusal}
+use Rattle.sheet.specs.declared.Habit.{Habit}
+use Rattle.sheet.specs.declared.Settings.{Settings}
 use Rattle.language.specs.Section.{Lists}
 use Rattle.model.specs.Lists.{triggersOf, conditionsOf, acceptedWith, refusedWith}
 use Rattle.model.specs.declared.Trigger.{Trigger}
@@ -57,6 +59,11 @@ ruleEnd t xs ys i =
 unfoldable pub ruleWith : (ℕ → Tok) → Triggers → Res (List Condition) → Rule
 ruleWith t xs (ok ys i) = ruleEnd t xs (conditionsOf ys) i
 ruleWith t xs (no r) = toRule (no r)
+
+-- the settings of the same call with another habit
+unfoldable pub withHabit : Habit → Settings → Settings
+withHabit habit settings =
+    record { primary = settings .primary; habit = habit; own = settings .own; listed = settings .listed }
 
 -- the place of a refusal's token in the records, or the end's
 unfoldable pub placed : List ℕ → ℕ → ℕ → Refusal → Answer

@@ -1,5 +1,6 @@
 // The call that outsiders make: a rule text and a name sheet in, both lists or one numbered refusal out.
 use crate::parts;
+use crate::parts::Rule;
 use crate::section;
 use model::Answer;
 use sheet::Call;
@@ -20,10 +21,12 @@ ghost use Rattle.tokens.specs.Lex.{mostBytes, leastWords};
 ghost use Rattle.tokens.specs.Buffer.{Holds, frontOf};
 ghost use Rattle.sheet.specs.Sheet.{sheetCheck};
 ghost use Rattle.sheet.specs.View.{viewOf, seen, ownPrimary};
+ghost use Rattle.sheet.specs.declared.Habit.{Habit};
+ghost use Rattle.language.specs.Profile.{Profiled};
 ghost use Rattle.model.specs.Lists.{refusedWith};
-ghost use Rattle.language.specs.Read.{ruleOf, byText, bySheet, readOf, ruleCall, archiveCall};
+ghost use Rattle.language.specs.Read.{ruleIn, onAccepted, ruleOf, byText, bySheet, readOf, ruleCall, archiveCall, shopCall};
 ghost use Rattle.language.specs.Demand.{Exact};
-ghost use Rattle.reader.specs.Parts.{placed, answered, notOwn};
+ghost use Rattle.reader.specs.Parts.{withHabit, toRule, placed, answered, notOwn};
 
 // A refusal has empty lists.
 fn refused(number: u32, line: u32, column: u32, detail: u32) -> Answer
@@ -55,6 +58,43 @@ fn placed_at(words: &[u32], line: u32, column: u32, refusal: Refusal) -> Answer
     refused(refusal.number, line, column, refusal.detail)
 }
 
+// The same settings in a call of another habit.
+fn with_habit(habit: Habit, settings: Settings) -> Settings
+    ensures { λ r. ⌜ r ≡ withHabit habit settings ⌝ }
+{
+    let own = settings.own;
+    let listed = settings.listed;
+    Settings {
+        primary: settings.primary,
+        habit,
+        own,
+        listed,
+    }
+}
+
+// The rule in the records under the shop profile, which is judged on an accepted reading: it is read twice.
+fn profiled_rule(settings: Settings, text: &[u8], words: &[u32], sheet: &[u8], lent: &[u8]) -> Rule
+    ensures { λ r. ⌜ r ≡ toRule (onAccepted (ruleIn (now (text .entry)) (now (words .entry)) (viewOf (withHabit Habit.Rule settings) (now (sheet .entry))) (now (lent .entry))) (ruleIn (now (text .entry)) (now (words .entry)) (viewOf (withHabit Habit.Shop settings) (now (sheet .entry))) (now (lent .entry)))) ⌝ }
+{
+    let full = section::rule(text, words, sheet, with_habit(Habit::Rule, settings), lent);
+    if full.accepted {
+        return section::rule(text, words, sheet, with_habit(Habit::Shop, settings), lent);
+    }
+    full
+}
+
+// The rule in the records.
+fn rule_of(settings: Settings, text: &[u8], words: &[u32], sheet: &[u8], lent: &[u8]) -> Rule
+    ensures { λ r. ⌜ r ≡ toRule (ruleOf (now (text .entry)) (now (words .entry)) (viewOf settings (now (sheet .entry))) (now (lent .entry))) ⌝ }
+{
+    let habit = settings.habit;
+    match habit {
+        Habit::Rule => section::rule(text, words, sheet, settings, lent),
+        Habit::Archive => section::rule(text, words, sheet, settings, lent),
+        Habit::Shop => profiled_rule(settings, text, words, sheet, lent),
+    }
+}
+
 // Parses the tokens in the records; line and column are the end's.
 fn parse(
     settings: Settings,
@@ -67,7 +107,7 @@ fn parse(
 ) -> Answer
     ensures { λ r. ⌜ r ≡ answered (now (words .entry)) line column (ruleOf (now (text .entry)) (now (words .entry)) (viewOf settings (now (sheet .entry))) (now (lent .entry))) ⌝ }
 {
-    let rule = section::rule(text, words, sheet, settings, lent);
+    let rule = rule_of(settings, text, words, sheet, lent);
     let triggers = rule.triggers;
     let conditions = rule.conditions;
     if rule.accepted {
@@ -164,7 +204,7 @@ fn read_sheet(call: Call, text: &[u8], sheet: &[u8], lent: &[u8], words: &mut [u
     }
 }
 
-// The call of either habit.
+// The call of any habit.
 pub fn read_by(call: Call, text: &[u8], sheet: &[u8], lent: &[u8], words: &mut [u32]) -> Answer
     ensures { λ r. ⌜ (r ≡ readOf call (now (text .entry)) (now (sheet .entry)) (now (lent .entry)) (now (words .entry)) .answer) × (now (words .exit) ≡ readOf call (now (text .entry)) (now (sheet .entry)) (now (lent .entry)) (now (words .entry)) .buffer) ⌝ }
     ensures buffer { λ r. ⌜ Holds (frontOf (r .number) (now (text .entry))) (now (words .entry)) (now (words .exit)) ⌝ }
@@ -225,6 +265,34 @@ pub fn read_archive(
     read_by(
         Call {
             habit: Habit::Archive,
+            party,
+            primary,
+        },
+        text,
+        sheet,
+        lent,
+        words,
+    )
+}
+
+// The shop's call: what `read` answers, less the forms that the profile leaves out. It accepts a text of which `read` accepts a reading with none of them, with
+// the same lists; the earliest of them is refused, and any other refusal of `read` is this call's. The words are those that `read` leaves.
+pub fn read_shop(
+    text: &[u8],
+    sheet: &[u8],
+    lent: &[u8],
+    party: u8,
+    primary: u8,
+    words: &mut [u32],
+) -> Answer
+    ensures { λ r. ⌜ (r ≡ readOf (shopCall party primary) (now (text .entry)) (now (sheet .entry)) (now (lent .entry)) (now (words .entry)) .answer) × (now (words .exit) ≡ readOf (shopCall party primary) (now (text .entry)) (now (sheet .entry)) (now (lent .entry)) (now (words .entry)) .buffer) ⌝ }
+    ensures buffer { λ r. ⌜ Holds (frontOf (r .number) (now (text .entry))) (now (words .entry)) (now (words .exit)) ⌝ }
+    ensures reading { λ r. ⌜ Exact (shopCall party primary) (now (text .entry)) (now (sheet .entry)) (now (lent .entry)) (length (now (words .entry))) r ⌝ }
+    ensures profile { λ r. ⌜ Profiled party primary (now (text .entry)) (now (sheet .entry)) (now (lent .entry)) (length (now (words .entry))) (readOf (ruleCall party primary) (now (text .entry)) (now (sheet .entry)) (now (lent .entry)) (now (words .entry))) (record { answer = r; buffer = now (words .exit) }) ⌝ }
+{
+    read_by(
+        Call {
+            habit: Habit::Shop,
             party,
             primary,
         },

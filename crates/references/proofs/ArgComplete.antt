@@ -40,9 +40,9 @@ word-next (a-word p q) = omega arith
 up-to-next : {t : ℕ → Tok} {most i n j : ℕ} → Up-to t most i n j → i < j
 up-to-next (up-to h l) = token-next h
 
-name-or-id-next : {t : ℕ → Tok} {i j : ℕ} {d : NameOrId} → Name-or-id t i d j → i < j
+name-or-id-next : {t : ℕ → Tok} {view : View} {i j : ℕ} {d : NameOrId} → Name-or-id t view i d j → i < j
 name-or-id-next (name (quoted h a b)) = token-next h
-name-or-id-next (id h) = token-next h
+name-or-id-next (id h may) = token-next h
 
 adapter-next : {t : ℕ → Tok} {view : View} {i a j : ℕ} → Adapter t view i a j → i < j
 adapter-next (Adapter.adapter h l) = up-to-next h
@@ -83,13 +83,13 @@ unnamed : (t : ℕ → Tok) {i kind : ℕ} → eqb kind 1 ≡ false → t i .kin
 unfolding isNamed
 unnamed t {i} e p = rw (kind-no t 1 i (not-kind t 1 e p))
 
-first-slot : {t : ℕ → Tok} {i j : ℕ} {d : NameOrId} → Name-or-id t i d j → Slot t 0 i devSlot 1 i
+first-slot : {t : ℕ → Tok} {view : View} {i j : ℕ} {d : NameOrId} → Name-or-id t view i d j → Slot t 0 i devSlot 1 i
 unfolding slotAt unnamedSlot countWith
-first-slot {t} {i} h = record { answered = rw (not-named h); counted = rw (not-named h); behind = omega arith }
+first-slot {t} {view} {i} h = record { answered = rw (not-named h); counted = rw (not-named h); behind = omega arith }
   where
-    not-named : {j : ℕ} {d : NameOrId} → Name-or-id t i d j → isNamed t i ≡ false
+    not-named : {j : ℕ} {d : NameOrId} → Name-or-id t view i d j → isNamed t i ≡ false
     not-named (name (quoted (token p) a b)) = unnamed t refl p
-    not-named (id (token p)) = unnamed t refl p
+    not-named (id (token p) may) = unnamed t refl p
 
 second-slot : {t : ℕ → Tok} {most i n j : ℕ} → Up-to t most i n j → Slot t 1 i instSlot 2 i
 unfolding slotAt unnamedSlot countWith

@@ -120,8 +120,10 @@ module _ (t : ℕ → Tok) (view : View) where
     unfolding itemAt deviceItem instanceItem groupItem typeItem adapterItem slot
     named-sound m p r q other-key = tt
     named-sound m {i} p r q key-dev =
-        not-set (Read m i m) i devSlot (deviceItem t (i + 1 + 1))
-        (λ e. bind-ok _ (nameOrId t (i + 1 + 1)) _ (name-or-id-sound t (i + 1 + 1)) (λ d j h. (Arg.dev (a-word p q) (token r) h, e)))
+        not-set (Read m i m) i devSlot (deviceItem t view (i + 1 + 1))
+        (λ e.
+        bind-ok _ (nameOrId t view (i + 1 + 1)) _ (name-or-id-sound t view (i + 1 + 1))
+        (λ d j h. (Arg.dev (a-word p q) (token r) h, e)))
     named-sound m {i} p r q key-inst =
         not-set (Read m i m) i instSlot (instanceItem t (i + 1 + 1))
         (λ e.
@@ -145,7 +147,8 @@ module _ (t : ℕ → Tok) (view : View) where
     unnamed-sound : (m i : ℕ) → Okay (Read m i (pick (ltb m 2) (m + 1) 2)) (bind (unnamedSlot m i) (asked i))
     unfolding unnamedSlot itemAt deviceItem instanceItem slot
     unnamed-sound zero i =
-        not-set (Read 0 i 1) i devSlot (deviceItem t i) (λ e. bind-ok _ (nameOrId t i) _ (name-or-id-sound t i) (λ d j h. (first h, e)))
+        not-set (Read 0 i 1) i devSlot (deviceItem t view i)
+        (λ e. bind-ok _ (nameOrId t view i) _ (name-or-id-sound t view i) (λ d j h. (first h, e)))
     unnamed-sound (suc zero) i =
         not-set (Read 1 i 2) i instSlot (instanceItem t i) (λ e. bind-ok _ (takeIn t 0 lastInstance i) _ (up-to-sound t lastInstance i) (λ n j h. (second h, e)))
     unnamed-sound (suc (suc m)) i = rw (ne-eqb (suc (suc m)) 0 (λ e. omega arith), ne-eqb (suc (suc m)) 1 (λ e. omega arith)) tt

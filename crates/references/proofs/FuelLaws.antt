@@ -3,7 +3,7 @@ use Prim.Native.Nat.{ℕ, zero, suc, _+_, _<_, _≤_}
 use native.Mathlib.Omega.{arith}
 use mathlib.Core.Path.{_≡_, refl, ap}
 use mathlib.Core.Bool.{Bool, true, false}
-use Rattle.tokens.specs.Result.{Res, ok, no, bind, perhaps}
+use Rattle.tokens.specs.Result.{Res, bind, perhaps}
 use Rattle.tokens.specs.Kind.{OPEN, COMMA}
 use Rattle.tokens.specs.Cursor.{Tok, isKind, takeKind}
 use Rattle.tokens.specs.Grammar.{Token, token}
@@ -13,14 +13,9 @@ use Rattle.references.specs.Args.{put, noArgs, argAt, countWith, argsFro
 use Rattle.references.specs.declared.args.Args.{Args}
 use Rattle.references.specs.declared.args.Item.{Item}
 use Rattle.model.specs.declared.Selector.{Selector}
+use Rattle.references.proofs.EndLaws.{bind-alike}
 use Rattle.references.proofs.ArgSound.{arg-sound}
 use Rattle.references.proofs.ArgComplete.{arg-complete, token-before}
-
--- two ways to go on that answer alike behind whatever is answered first
-pub bind-alike : {A B : Type 0} {P : A → ℕ → Type 0} (m : Res A) (f g : A → ℕ → Res B) → Okay P m →
-    ((a : A) (j : ℕ) → P a j → f a j ≡ g a j) → bind m f ≡ bind m g
-bind-alike (ok a j) f g h e = e a j h
-bind-alike (no r) f g h e = refl
 
 perhaps-alike : {A : Type 0} (b : Bool) (i : ℕ) (f g : ℕ → Res A) (other : Res A) → (b ≡ true → f (i + 1) ≡ g (i + 1)) →
     perhaps b i f other ≡ perhaps b i g other

@@ -8,6 +8,7 @@ pub mod RepeatLaws
 pub mod ArgSound
 pub mod ArgComplete
 pub mod NumberLaws
+pub mod EndLaws
 pub mod HabitLaws
 pub mod FuelLaws
 pub mod RangeLaws

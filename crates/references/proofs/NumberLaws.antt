@@ -15,7 +15,7 @@ use Rattle.tokens.specs.Cursor.{Tok, takeKind, takeWord, takeIn}
 use Rattle.sheet.specs.Sheet.{Entry}
 use Rattle.sheet.specs.View.{View}
 use Rattle.sheet.specs.Resolve.{noneOf, chosen, pickNamed, elsewhere}
-use Rattle.references.specs.Refs.{checkedName, closedName, quotedName, nameOrId, adapterNumber, adapterAssign, adapterClause, foundAt, referred, closeR, openR, reference, lampRef, groupRef, deviceRef, devName, inputDeviceRef, lampTarget, groupTarget, lightTarget}
+use Rattle.references.specs.Refs.{checkedName, closedName, quotedName, nameOrId, adapterNumber, adapterAssign, adapterClause, foundAt, referred, closeR, openR, reference, lampRef, groupRef, deviceRef, devName, inputDeviceRef, lampTarget, groupTarget, broadcastTarget, lightTarget}
 use Rattle.references.specs.Args.{keySlot, namedSlot, unnamedSlot, slotAt, inputTypeValue, deviceItem, instanceItem, groupItem, typeItem, adapterItem, itemAt, argAt, argsFrom, deviceInstance, withInst, withDev, withGroup, selected, closeArgs, inputSelector, oneInstance, inputRef}
 use Rattle.sheet.specs.declared.resolve.Scope.{Scope}
 use Rattle.references.specs.declared.refs.NameOrId.{NameOrId}
@@ -27,9 +27,10 @@ use Rattle.references.specs.declared.args.GroupArg.{GroupArg}
 use Rattle.model.specs.declared.Selector.{Selector}
 use Rattle.tokens.proofs.Okay.{both-true}
 
--- the numbers with which a rule is refused: 20 to 41, and of document 02 63, a repeated argument, and 64 to 66, which are about topics
+-- the numbers with which a rule is refused: 20 to 41, and of document 02 57 to 59, the shop profile's, 63, a repeated argument, and 64 to 66, which
+-- are about topics
 abbrev pub isRefusal : ℕ → Bool
-isRefusal n = pick (within 20 41 n) true (within 63 66 n)
+isRefusal n = pick (within 20 41 n) true (pick (within 57 59 n) true (within 63 66 n))
 
 -- a refusal, if it is one, has one of these numbers
 unfoldable pub Refuses : {A : Type 0} → Res A → Type 0
@@ -40,27 +41,37 @@ either-true : (x y : Bool) (P : Type 0) → (x ≡ true → P) → (y ≡ true �
 either-true true y P f g e = f refl
 either-true false y P f g e = g e
 
--- a number of one of the two ranges
-by-range : (n : ℕ) (P : Type 0) → (20 ≤ n → n ≤ 41 → P) → (63 ≤ n → n ≤ 66 → P) → isRefusal n ≡ true → P
-by-range n P f g =
-    either-true (within 20 41 n) (within 63 66 n) P
-    (λ e. let b = both-true (leb 20 n) _ e in f (leb-true 20 n (b .0)) (leb-true n 41 (b .1)))
-    (λ e. let b = both-true (leb 63 n) _ e in g (leb-true 63 n (b .0)) (leb-true n 66 (b .1)))
+-- what is true of each of these numbers
+record Late (n : ℕ) : Type 0 where
+  least : 20 ≤ n
+  most : n ≤ 66
+  no-primary : n ≡ 53 → ⊥
+
+in-range : (low high n : ℕ) → 20 ≤ low → high ≤ 66 → (low ≤ 53 → 53 ≤ high → ⊥) → within low high n ≡ true → Late n
+in-range low high n l m none e =
+    let b = both-true (leb low n) _ e in
+    let p = leb-true low n (b .0) in
+    let q = leb-true n high (b .1) in
+    record { least = omega arith; most = omega arith; no-primary = λ z. none (omega arith) (omega arith) }
+
+late : (n : ℕ) → isRefusal n ≡ true → Late n
+late n =
+    either-true (within 20 41 n) _ (Late n) (in-range 20 41 n (omega arith) (omega arith) (λ p q. omega arith))
+    (either-true (within 57 59 n) _ (Late n) (in-range 57 59 n (omega arith) (omega arith) (λ p q. omega arith))
+    (in-range 63 66 n (omega arith) (omega arith) (λ p q. omega arith)))
 
 -- each is 20 or more: none is a question that is put before the parser's
 pub refusal-least : (n : ℕ) → isRefusal n ≡ true → 20 ≤ n
-refusal-least n = by-range n (20 ≤ n) (λ l m. l) (λ l m. omega arith)
+refusal-least n e = late n e .least
 
 pub refusal-most : (n : ℕ) → isRefusal n ≡ true → n ≤ 66
-refusal-most n = by-range n (n ≤ 66) (λ l m. omega arith) (λ l m. m)
-
-not-asked-first : (n : ℕ) → 20 ≤ n → (n ≡ 53 → ⊥) → isAskedFirst n ≡ false
-not-asked-first n l h = rw (le-leb 1 n (omega arith), lt-leb n 4 (omega arith), ne-eqb n 53 h)
+refusal-most n e = late n e .most
 
 -- and none is one that is asked before the text is lexed
 pub refusal-late : (n : ℕ) → isRefusal n ≡ true → isAskedFirst n ≡ false
-refusal-late n =
-    by-range n (isAskedFirst n ≡ false) (λ l m. not-asked-first n l (λ e. omega arith)) (λ l m. not-asked-first n (omega arith) (λ e. omega arith))
+refusal-late n e =
+    let h = late n e in
+    rw (le-leb 1 n (omega (arith, h .least)), lt-leb n 4 (omega (arith, h .least)), ne-eqb n 53 (h .no-primary))
 
 pub ok-refuses : {A : Type 0} (a : A) (j : ℕ) → Refuses (ok a j)
 unfolding Refuses
@@ -124,9 +135,9 @@ module _ (t : ℕ → Tok) where
   unfolding quotedName closedName
   quoted-refuses i = search (numbers, name-refuses)
 
-  name-or-id-refuses : (i : ℕ) → Refuses (nameOrId t i)
+  name-or-id-refuses : (view : View) (i : ℕ) → Refuses (nameOrId t view i)
   unfolding nameOrId
-  name-or-id-refuses i = search (numbers, name-refuses)
+  name-or-id-refuses view i = search (numbers, name-refuses)
 
 module _ (t : ℕ → Tok) (view : View) where
   adapter-refuses : (i : ℕ) → Refuses (adapterNumber t view i)
@@ -167,7 +178,7 @@ module _ (t : ℕ → Tok) (view : View) where
   input-device-refuses i = search (numbers, inside-refuses)
 
   pub target-refuses : (i : ℕ) → Refuses (lightTarget t view i)
-  unfolding lightTarget lampTarget groupTarget
+  unfolding lightTarget lampTarget groupTarget broadcastTarget
   target-refuses i = search (numbers, lamp-refuses, group-refuses)
 
   -- one argument

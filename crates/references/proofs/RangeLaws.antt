@@ -116,7 +116,7 @@ module _ {t : ℕ → Tok} {view : View} (sees : View-in-range view) where
   unfolding Target-in-range
   target-in (Target.lamp w h) = lamp-in h
   target-in (Target.group w h) = group-in h
-  target-in (Target.broadcast w) = sees .primary
+  target-in (Target.broadcast w may) = sees .primary
 
   selects-in : {xs : List Item} {s : Selector} → Each Item-in-range xs → Selects t view xs s → Selector-in-range s
   unfolding Selector-in-range mostOf

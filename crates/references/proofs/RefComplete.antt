@@ -12,7 +12,7 @@ use Rattle.tokens.specs.Result.{ok}
 use Rattle.tokens.specs.Cursor.{Tok, isWord}
 use Rattle.sheet.specs.View.{View}
 use Rattle.model.specs.Limits.{longestName}
-use Rattle.references.specs.Refs.{checkedName, closedName, quotedName, nameOrId, adapterNumber, adapterAssign, adapterClause, scopeOrPrimary, foundAt, referred, closeR, openR, reference, lampRef, groupRef, deviceRef, devName, inputDeviceRef, lampTarget, groupTarget, lightTarget}
+use Rattle.references.specs.Refs.{checkedName, closedName, quotedName, nameOrId, adapterNumber, adapterAssign, adapterClause, scopeOrPrimary, foundAt, referred, closeR, openR, reference, lampRef, groupRef, deviceRef, devName, inputDeviceRef, lampTarget, groupTarget, broadcastTarget, lightTarget}
 use Rattle.tokens.specs.Grammar.{Token, token, Word, a-word}
 use Rattle.references.specs.Grammar.{Quoted, quoted, Q, q, Name-or-id, name, id, Adapter, Clause, no-clause, clause, Refers, row, on-primary, on-adapter, Inside, inside, R, r, Lamp, Group, Device, Input-device, plain, with-dev, Target, lamp, broadcast}
 use Rattle.sheet.specs.declared.resolve.Scope.{Scope}
@@ -35,14 +35,16 @@ quoted-kind : {t : ℕ → Tok} {i j : ℕ} → Quoted t i j → t i .kind ≡ 2
 quoted-kind (quoted h some few) = token-kind h
 
 -- a name or an id does not begin with a word
-pub name-or-id-no-word : {t : ℕ → Tok} (word : List ℕ) {i j : ℕ} {target : NameOrId} → Name-or-id t i target j → isWord t word i ≡ false
+pub name-or-id-no-word : {t : ℕ → Tok} {view : View} (word : List ℕ) {i j : ℕ} {target : NameOrId} → Name-or-id t view i target j →
+    isWord t word i ≡ false
 name-or-id-no-word {t} word (name h) = word-none t word refl (quoted-kind h)
-name-or-id-no-word {t} word (id h) = word-none t word refl (token-kind h)
+name-or-id-no-word {t} word (id h may) = word-none t word refl (token-kind h)
 
-pub name-or-id-complete : {t : ℕ → Tok} {i j : ℕ} {target : NameOrId} → Name-or-id t i target j → nameOrId t i ≡ ok target j
+pub name-or-id-complete : {t : ℕ → Tok} {view : View} {i j : ℕ} {target : NameOrId} → Name-or-id t view i target j →
+    nameOrId t view i ≡ ok target j
 unfolding nameOrId
 name-or-id-complete {t} (name h) = simp (kind-yes t refl (quoted-kind h), checked-name-complete h)
-name-or-id-complete {t} {i} (id h) = simp (kind-no t 2 i (not-kind t 2 refl (token-kind h)), kind-complete t refl h)
+name-or-id-complete {t} {i = i} (id h may) = simp (kind-no t 2 i (not-kind t 2 refl (token-kind h)), kind-complete t refl h, may)
 
 pub adapter-complete : {t : ℕ → Tok} {view : View} {i a j : ℕ} → Adapter t view i a j → adapterNumber t view i ≡ ok a j
 unfolding adapterNumber
@@ -109,9 +111,9 @@ input-device-complete {t} (with-dev left (a-word p x) e h) =
 
 pub target-complete : {t : ℕ → Tok} {view : View} {i j : ℕ} {target : LightTarget} → Target t view i target j →
     lightTarget t view i ≡ ok target j
-unfolding lightTarget lampTarget groupTarget sameBytes
+unfolding lightTarget lampTarget groupTarget broadcastTarget sameBytes
 target-complete {t} (lamp (a-word p x) h) = simp (word-yes t (a-word p x), lamp-complete h)
 target-complete {t} (Target.group (a-word p x) h) =
     simp (word-no t (ascii "lamp") refl (a-word p x), word-yes t (a-word p x), group-complete h)
-target-complete {t} (broadcast (a-word p x)) =
-    simp (word-no t (ascii "lamp") refl (a-word p x), word-no t (ascii "group") refl (a-word p x), word-yes t (a-word p x))
+target-complete {t} (broadcast (a-word p x) may) =
+    simp (word-no t (ascii "lamp") refl (a-word p x), word-no t (ascii "group") refl (a-word p x), word-yes t (a-word p x), may)

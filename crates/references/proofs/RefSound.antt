@@ -13,7 +13,7 @@ use Rattle.sheet.specs.Sheet.{Entry}
 use Rattle.sheet.specs.View.{View}
 use Rattle.sheet.specs.Picks.{Picks}
 use Rattle.sheet.specs.Resolve.{pickNamed}
-use Rattle.references.specs.Refs.{checkedName, closedName, quotedName, nameOrId, adapterNumber, adapterAssign, adapterClause, scopeOrPrimary, foundAt, referred, closeR, openR, reference, lampRef, groupRef, deviceRef, devName, inputDeviceRef, lampTarget, groupTarget, lightTarget}
+use Rattle.references.specs.Refs.{checkedName, closedName, quotedName, nameOrId, adapterNumber, adapterAssign, adapterClause, scopeOrPrimary, foundAt, referred, closeR, openR, reference, lampRef, groupRef, deviceRef, devName, inputDeviceRef, lampTarget, groupTarget, broadcastTarget, lightTarget}
 use Rattle.tokens.specs.Grammar.{Token, Word}
 use Rattle.references.specs.Grammar.{Quoted, quoted, Q, q, Name-or-id, name, id, Adapter, Clause, no-clause, clause, Refers, row, on-primary, on-adapter, Inside, inside, R, r, Lamp, Group, Device, Input-device, plain, with-dev, Target, lamp, broadcast}
 use Rattle.sheet.specs.declared.resolve.Scope.{Scope}
@@ -51,13 +51,15 @@ quoted-sound t i =
     bind-ok G (checkedName t j) _ (checked-name-sound t j)
     (λ n k h. bind-ok G (takeKind t 8 k) _ (kind-sound t 8 k) (λ b l right. q left h right)))
 
-pub name-or-id-sound : (t : ℕ → Tok) (i : ℕ) → Okay (Name-or-id t i) (nameOrId t i)
+pub name-or-id-sound : (t : ℕ → Tok) (view : View) (i : ℕ) → Okay (Name-or-id t view i) (nameOrId t view i)
 unfolding nameOrId
-name-or-id-sound t i =
-    let G = Name-or-id t i in
+name-or-id-sound t view i =
+    let G = Name-or-id t view i in
     pick-ok G (isKind t 2 i) _ _
     (λ e. bind-ok G (checkedName t i) _ (checked-name-sound t i) (λ n j h. name h))
-    (λ e. bind-ok G (takeKind t 3 i) _ (kind-sound t 3 i) (λ n j h. id h))
+    (λ e.
+    bind-ok G (takeKind t 3 i) _ (kind-sound t 3 i)
+    (λ n j h. pick-ok G (view .allows i) _ _ (λ may. id h may) (λ may. tt)))
 
 -- what was found, for any form that ends with it
 found-sound : (G : Ref → ℕ → Type 0) (i j : ℕ) (f : Found) →
@@ -117,7 +119,7 @@ module _ (t : ℕ → Tok) (view : View) where
     unfolding openR closeR
     inside-sound i =
         let G = Inside t view kind most i in
-        bind-ok G (nameOrId t i) _ (name-or-id-sound t i)
+        bind-ok G (nameOrId t view i) _ (name-or-id-sound t view i)
         (λ target j h.
         bind-ok G (adapterClause t view j) _ (clause-sound j)
         (λ scope k c.
@@ -172,7 +174,7 @@ module _ (t : ℕ → Tok) (view : View) where
       mapped G (openR t view inputKind lastShortAddress k) (inside-sound inputKind lastShortAddress k) (λ ref l h. dev-first left dev h)))
 
   pub target-sound : (i : ℕ) → Okay (Target t view i) (lightTarget t view i)
-  unfolding lightTarget lampTarget groupTarget
+  unfolding lightTarget lampTarget groupTarget broadcastTarget
   target-sound i =
       let G = Target t view i in
       perhaps-ok G (isWord t (ascii "lamp") i) i _ _
@@ -181,4 +183,6 @@ module _ (t : ℕ → Tok) (view : View) where
       perhaps-ok G (isWord t (ascii "group") i) i _ _
       (λ e. bind-ok G (groupRef t view (i + 1)) _ (group-sound (i + 1)) (λ ref j h. Target.group (is-word t (ascii "group") i e) h))
       (λ n.
-      perhaps-ok G (isWord t (ascii "broadcast") i) i _ _ (λ e. broadcast (is-word t (ascii "broadcast") i e)) (λ n. tt)))
+      perhaps-ok G (isWord t (ascii "broadcast") i) i _ _
+      (λ e. pick-ok G (view .allows i) _ _ (λ may. broadcast (is-word t (ascii "broadcast") i e) may) (λ may. tt))
+      (λ n. tt)))

@@ -72,8 +72,8 @@ inputTypeValue t i =
     (takeIn t 0 lastInstanceType i)
 
 -- the value of an argument, judged as it is read but for dev
-unfoldable pub deviceItem : (ℕ → Tok) → ℕ → Res Item
-deviceItem t i = bind (nameOrId t i) (λ d j. ok (Item.Device d) j)
+unfoldable pub deviceItem : (ℕ → Tok) → View → ℕ → Res Item
+deviceItem t view i = bind (nameOrId t view i) (λ d j. ok (Item.Device d) j)
 
 unfoldable pub instanceItem : (ℕ → Tok) → ℕ → Res Item
 instanceItem t i = bind (takeIn t 0 lastInstance i) (λ n j. ok (Item.Instance n) j)
@@ -89,7 +89,7 @@ adapterItem t view i = bind (adapterNumber t view i) (λ a j. ok (Item.Adapter a
 
 unfoldable pub itemAt : (ℕ → Tok) → View → ℕ → ℕ → Res Item
 itemAt t view slot i =
-    pick (eqb slot devSlot) (deviceItem t i)
+    pick (eqb slot devSlot) (deviceItem t view i)
     (pick (eqb slot instSlot) (instanceItem t i)
     (pick (eqb slot groupSlot) (groupItem t i)
     (pick (eqb slot typeSlot) (typeItem t i) (adapterItem t view i))))

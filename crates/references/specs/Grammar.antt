@@ -35,9 +35,10 @@ pub data Quoted (t : ℕ → Tok) : ℕ → ℕ → Type 0 where
 pub data Q (t : ℕ → Tok) : ℕ → ℕ → ℕ → Type 0 where
   q : {i a j k b l : ℕ} → Token t OPEN i a j → Quoted t j k → Token t CLOSE k b l → Q t i j l
 
-pub data Name-or-id (t : ℕ → Tok) : ℕ → NameOrId → ℕ → Type 0 where
-  name : {i j : ℕ} → Quoted t i j → Name-or-id t i (Name i) j
-  id : {i n j : ℕ} → Token t INTEGER i n j → Name-or-id t i (Id n i) j
+-- a name, or an id where one may stand
+pub data Name-or-id (t : ℕ → Tok) (view : View) : ℕ → NameOrId → ℕ → Type 0 where
+  name : {i j : ℕ} → Quoted t i j → Name-or-id t view i (Name i) j
+  id : {i n j : ℕ} → Token t INTEGER i n j → view .allows i ≡ true → Name-or-id t view i (Id n i) j
 
 -- A, a listed adapter
 pub data Adapter (t : ℕ → Tok) (view : View) : ℕ → ℕ → ℕ → Type 0 where
@@ -58,7 +59,7 @@ pub data Refers (t : ℕ → Tok) (view : View) (kind most : ℕ) : NameOrId →
 
 -- name or id, perhaps `, adapter = A` `)`
 pub data Inside (t : ℕ → Tok) (view : View) (kind most : ℕ) : ℕ → Ref → ℕ → Type 0 where
-  inside : {i j k b l : ℕ} {target : NameOrId} {scope : Scope} {r : Ref} → Name-or-id t i target j → Clause t view j scope k →
+  inside : {i j k b l : ℕ} {target : NameOrId} {scope : Scope} {r : Ref} → Name-or-id t view i target j → Clause t view j scope k →
       Token t CLOSE k b l → Refers t view kind most target scope r → Inside t view kind most i r l
 
 -- R is `(` name or id, perhaps `, adapter = A` `)`
@@ -80,11 +81,11 @@ pub data Input-device (t : ℕ → Tok) (view : View) : ℕ → Ref → ℕ → 
   with-dev : {i a j k b l m : ℕ} {ref : Ref} → Token t OPEN i a j → Word t (ascii "dev") j k → Token t ASSIGN k b l →
       Inside t view inputKind lastShortAddress l ref m → Input-device t view i ref m
 
--- TARGET is lamp R, group R or broadcast (primary)
+-- TARGET is lamp R, group R or broadcast (primary), where that may stand
 pub data Target (t : ℕ → Tok) (view : View) : ℕ → LightTarget → ℕ → Type 0 where
   lamp : {i j k : ℕ} {ref : Ref} → Word t (ascii "lamp") i j → Lamp t view j ref k → Target t view i (LightTarget.Lamp ref) k
   group : {i j k : ℕ} {ref : Ref} → Word t (ascii "group") i j → Group t view j ref k → Target t view i (LightTarget.Group ref) k
-  broadcast : {i j : ℕ} → Word t (ascii "broadcast") i j → Target t view i (LightTarget.Broadcast (view .primary)) j
+  broadcast : {i j : ℕ} → Word t (ascii "broadcast") i j → view .allows i ≡ true → Target t view i (LightTarget.Broadcast (view .primary)) j
 
 -- 0 to 31, or button 1, absolute 2, occupancy 3, light 4
 pub data Type-of (t : ℕ → Tok) : ℕ → ℕ → ℕ → Type 0 where
@@ -96,7 +97,7 @@ pub data Type-of (t : ℕ → Tok) : ℕ → ℕ → ℕ → Type 0 where
 
 -- one argument behind m unnamed ones; n unnamed ones are there with it. Unnamed ones are dev, then inst.
 pub data Arg (t : ℕ → Tok) (view : View) : ℕ → ℕ → Item → ℕ → ℕ → Type 0 where
-  dev : {m i j a k l : ℕ} {d : NameOrId} → Word t (ascii "dev") i j → Token t ASSIGN j a k → Name-or-id t k d l →
+  dev : {m i j a k l : ℕ} {d : NameOrId} → Word t (ascii "dev") i j → Token t ASSIGN j a k → Name-or-id t view k d l →
       Arg t view m i (Item.Device d) m l
   inst : {m i j a k n l : ℕ} → Word t (ascii "inst") i j → Token t ASSIGN j a k → Up-to t lastInstance k n l →
       Arg t view m i (Item.Instance n) m l
@@ -106,7 +107,7 @@ pub data Arg (t : ℕ → Tok) (view : View) : ℕ → ℕ → Item → ℕ → 
       Arg t view m i (Item.Type n) m l
   adapter : {m i j a k n l : ℕ} → Word t (ascii "adapter") i j → Token t ASSIGN j a k → Adapter t view k n l →
       Arg t view m i (Item.Adapter n) m l
-  first : {i j : ℕ} {d : NameOrId} → Name-or-id t i d j → Arg t view 0 i (Item.Device d) 1 j
+  first : {i j : ℕ} {d : NameOrId} → Name-or-id t view i d j → Arg t view 0 i (Item.Device d) 1 j
   second : {i n j : ℕ} → Up-to t lastInstance i n j → Arg t view 1 i (Item.Instance n) 2 j
 
 -- arguments parted by commas

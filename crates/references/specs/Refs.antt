@@ -41,11 +41,11 @@ closedName t i = bind (checkedName t i) (λ n j. bind (takeKind t CLOSE j) (λ b
 unfoldable pub quotedName : (ℕ → Tok) → ℕ → Res ℕ
 quotedName t i = bind (takeKind t OPEN i) (λ a j. closedName t j)
 
--- a name or an id, with the index of its token; the id is judged later
-unfoldable pub nameOrId : (ℕ → Tok) → ℕ → Res NameOrId
-nameOrId t i =
+-- a name or an id, with the index of its token; the id's range is judged later. Document 02, §9: "It refuses a numbered reference with 57", "at the id"
+unfoldable pub nameOrId : (ℕ → Tok) → View → ℕ → Res NameOrId
+nameOrId t view i =
     pick (isKind t STRING i) (bind (checkedName t i) (λ n j. ok (Name i) j))
-    (bind (takeKind t INTEGER i) (λ n j. ok (Id n i) j))
+    (bind (takeKind t INTEGER i) (λ n j. pick (view .allows i) (ok (Id n i) j) (refuse 57 i)))
 
 -- an adapter's number: in range? 22; listed? 25; both at the number
 unfoldable pub adapterNumber : (ℕ → Tok) → View → ℕ → Res ℕ
@@ -85,7 +85,7 @@ closeR t view kind most target i =
     (λ scope j. bind (takeKind t CLOSE j) (λ b k. referred t view kind most scope k target))
 
 unfoldable pub openR : (ℕ → Tok) → View → ℕ → ℕ → ℕ → Res Ref
-openR t view kind most i = bind (nameOrId t i) (λ target j. closeR t view kind most target j)
+openR t view kind most i = bind (nameOrId t view i) (λ target j. closeR t view kind most target j)
 
 unfoldable pub reference : (ℕ → Tok) → View → ℕ → ℕ → ℕ → Res Ref
 reference t view kind most i = bind (takeKind t OPEN i) (λ a j. openR t view kind most j)
@@ -113,12 +113,16 @@ lampTarget t view i = bind (lampRef t view i) (λ r j. ok (LightTarget.Lamp r) j
 unfoldable pub groupTarget : (ℕ → Tok) → View → ℕ → Res LightTarget
 groupTarget t view i = bind (groupRef t view i) (λ r j. ok (LightTarget.Group r) j)
 
+-- broadcast, whose word stands before i at an index; document 02, §9: "broadcast with 58", at "the word"
+unfoldable pub broadcastTarget : View → ℕ → ℕ → Res LightTarget
+broadcastTarget view word i = pick (view .allows word) (ok (LightTarget.Broadcast (view .primary)) i) (refuse 58 word)
+
 -- "TARGET is lamp R, group R or broadcast (primary)"
 unfoldable pub lightTarget : (ℕ → Tok) → View → ℕ → Res LightTarget
 lightTarget t view i =
     perhaps (isWord t (ascii "lamp") i) i (λ j. lampTarget t view j)
     (perhaps (isWord t (ascii "group") i) i (λ j. groupTarget t view j)
-    (perhaps (isWord t (ascii "broadcast") i) i (λ j. ok (LightTarget.Broadcast (view .primary)) j) (refuse 20 i)))
+    (perhaps (isWord t (ascii "broadcast") i) i (λ j. broadcastTarget view i j) (refuse 20 i)))
 
 -- the answers of the code
 unfoldable pub toIndex : Res ℕ → IndexAnswer

@@ -218,10 +218,10 @@ fn input_type_value(c: Cursor, text: &[u8], words: &[u32]) -> Taken
     }
 }
 
-fn device_item(c: Cursor, text: &[u8], words: &[u32]) -> ItemAnswer
-    ensures { λ r. ⌜ r ≡ toItem (deviceItem (tokens (now (text .entry)) (now (words .entry))) (c .index)) ⌝ }
+fn device_item(c: Cursor, text: &[u8], words: &[u32], s: &[u8], settings: Settings) -> ItemAnswer
+    ensures { λ r. ⌜ r ≡ toItem (deviceItem (tokens (now (text .entry)) (now (words .entry))) (viewOf settings (now (s .entry))) (c .index)) ⌝ }
 {
-    let dev = refs::name_or_id(c, text, words);
+    let dev = refs::name_or_id(c, text, words, s, settings);
     match dev {
         NameAnswer::No(refusal) => ItemAnswer::No(refusal),
         NameAnswer::Got(d, next) => ItemAnswer::Got(Item::Device(d), next),
@@ -281,7 +281,7 @@ fn item_at(
     ensures { λ r. ⌜ r ≡ toItem (itemAt (tokens (now (text .entry)) (now (words .entry))) (viewOf settings (now (s .entry))) slot (c .index)) ⌝ }
 {
     if slot == DEV_SLOT {
-        return device_item(c, text, words);
+        return device_item(c, text, words, s, settings);
     }
     if slot == INST_SLOT {
         return instance_item(c, text, words);
@@ -329,6 +329,7 @@ fn is_repeat(habit: Habit, a: Args, slot: u32) -> bool
     match habit {
         Habit::Archive => false,
         Habit::Rule => is_set(a, slot),
+        Habit::Shop => is_set(a, slot),
     }
 }
 

@@ -4,6 +4,7 @@ use model::Ref;
 use model::limits;
 use sheet::Settings;
 use sheet::kind;
+use sheet::profile;
 use sheet::resolve;
 use sheet::resolve::Found;
 use sheet::resolve::Scope;
@@ -16,7 +17,7 @@ ghost use mathlib.Core.Path.{_≡_};
 ghost use Rattle.tokens.specs.Cursor.{tokens, toTaken};
 ghost use Rattle.model.specs.Limits.{lastShortAddress, lastGroup};
 ghost use Rattle.sheet.specs.View.{viewOf};
-ghost use Rattle.references.specs.Refs.{checkedName, closedName, quotedName, nameOrId, adapterNumber, adapterAssign, adapterClause, scopeOrPrimary, foundAt, referred, closeR, openR, reference, lampRef, groupRef, deviceRef, devName, inputDeviceRef, lampTarget, groupTarget, lightTarget, toIndex, toName, toScope, toRef, toTarget};
+ghost use Rattle.references.specs.Refs.{checkedName, closedName, quotedName, nameOrId, adapterNumber, adapterAssign, adapterClause, scopeOrPrimary, foundAt, referred, closeR, openR, reference, lampRef, groupRef, deviceRef, devName, inputDeviceRef, lampTarget, groupTarget, broadcastTarget, lightTarget, toIndex, toName, toScope, toRef, toTarget};
 
 // A name, by its token's index, or an id and its token's index.
 pub enum NameOrId {
@@ -99,8 +100,9 @@ pub fn quoted_name(c: Cursor, text: &[u8], words: &[u32]) -> IndexAnswer
     }
 }
 
-pub fn name_or_id(c: Cursor, text: &[u8], words: &[u32]) -> NameAnswer
-    ensures { λ r. ⌜ r ≡ toName (nameOrId (tokens (now (text .entry)) (now (words .entry))) (c .index)) ⌝ }
+// A name, or an id where one may stand; else 57.
+pub fn name_or_id(c: Cursor, text: &[u8], words: &[u32], s: &[u8], settings: Settings) -> NameAnswer
+    ensures { λ r. ⌜ r ≡ toName (nameOrId (tokens (now (text .entry)) (now (words .entry))) (viewOf settings (now (s .entry))) (c .index)) ⌝ }
 {
     let i = c.index;
     if c.peek_is(text, words, tokens::kind::STRING) {
@@ -113,7 +115,13 @@ pub fn name_or_id(c: Cursor, text: &[u8], words: &[u32]) -> NameAnswer
     let id = c.expect_int(text, words);
     match id {
         Taken::No(refusal) => NameAnswer::No(refusal),
-        Taken::Got(n, next) => NameAnswer::Got(NameOrId::Id(n, i), next),
+        Taken::Got(n, next) => {
+            let habit = settings.habit;
+            if profile::any_form(habit) {
+                return NameAnswer::Got(NameOrId::Id(n, i), next);
+            }
+            NameAnswer::No(tokens::cursor::refuse(57, i))
+        }
     }
 }
 
@@ -274,7 +282,7 @@ fn open_reference(
 ) -> RefAnswer
     ensures { λ r. ⌜ r ≡ toRef (openR (tokens (now (text .entry)) (now (words .entry))) (viewOf settings (now (s .entry))) kind most (c .index)) ⌝ }
 {
-    let target = name_or_id(c, text, words);
+    let target = name_or_id(c, text, words, s, settings);
     match target {
         NameAnswer::No(refusal) => RefAnswer::No(refusal),
         NameAnswer::Got(name, next) => close_reference(
@@ -387,6 +395,17 @@ fn group_target(c: Cursor, text: &[u8], words: &[u32], s: &[u8], settings: Setti
     }
 }
 
+// Broadcast, where its word may stand; else 58.
+fn broadcast_target(word: usize, next: Cursor, s: &[u8], settings: Settings) -> TargetAnswer
+    ensures { λ r. ⌜ r ≡ toTarget (broadcastTarget (viewOf settings (now (s .entry))) word (next .index)) ⌝ }
+{
+    let habit = settings.habit;
+    if profile::any_form(habit) {
+        return TargetAnswer::Got(LightTarget::Broadcast(settings.primary), next);
+    }
+    TargetAnswer::No(tokens::cursor::refuse(58, word))
+}
+
 // TARGET: lamp R, group R or broadcast.
 pub fn light_target(
     c: Cursor,
@@ -408,7 +427,7 @@ pub fn light_target(
     }
     let all = c.accept_kw(text, words, b"broadcast");
     if let Accepted::Yes(next) = all {
-        return TargetAnswer::Got(LightTarget::Broadcast(settings.primary), next);
+        return broadcast_target(i, next, s, settings);
     }
     TargetAnswer::No(tokens::cursor::refuse(20, i))
 }

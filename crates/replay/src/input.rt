@@ -15,6 +15,9 @@ pub const RULE: u32 = 1;
 // The archive loader's call: a repeated argument replaces the earlier one.
 pub const ARCHIVE: u32 = 2;
 
+// The shop's call: one by the rule, under the shop profile.
+pub const SHOP: u32 = 3;
+
 // What stands for a habit where there is none.
 pub const NO_HABIT: u32 = 0;
 
@@ -61,7 +64,7 @@ fn follows(expected: &[u8]) -> bool {
     true
 }
 
-// The habit of a call, and the space behind it. That of the shop is the rule's.
+// The habit of a call, and the space behind it.
 pub fn habit() -> u32 {
     let first = next_byte();
     if first == b'r' && follows(b"ule ") {
@@ -71,7 +74,7 @@ pub fn habit() -> u32 {
         return ARCHIVE;
     }
     if first == b's' && follows(b"hop ") {
-        return RULE;
+        return SHOP;
     }
     NO_HABIT
 }

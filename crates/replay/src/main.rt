@@ -55,6 +55,17 @@ fn read(
             answer,
         );
     }
+    if names.habit == input::SHOP {
+        return tergyosul::tergyosul_read_shop(
+            text,
+            sheet,
+            lent,
+            names.party,
+            names.primary,
+            words,
+            answer,
+        );
+    }
     tergyosul::tergyosul_read(text, sheet, lent, names.party, names.primary, words, answer)
 }
 

@@ -51,9 +51,13 @@ fn given(n: u32, other: u8) -> u8 {
     other
 }
 
-fn habit(archive: bool) -> Habit {
+// At most one of the two is asked for.
+fn habit(archive: bool, shop: bool) -> Habit {
     if archive {
         return Habit::Archive;
+    }
+    if shop {
+        return Habit::Shop;
     }
     Habit::Rule
 }
@@ -61,7 +65,7 @@ fn habit(archive: bool) -> Habit {
 // The call that the options ask for: for party 0 unless one is given, with the sheet's own primary adapter unless one is given.
 fn asked(o: Options, sheet: &[u8]) -> Call {
     Call {
-        habit: habit(o.archive),
+        habit: habit(o.archive, o.shop),
         party: given(o.party, 0),
         primary: given(o.primary, given(reading::primary(sheet), 0)),
     }

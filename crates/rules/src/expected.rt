@@ -12,6 +12,7 @@ use crate::source;
 use crate::split;
 use crate::trial;
 use sheet::Call;
+use sheet::profile;
 
 // Is a candidate, which begins the line `line`, taken by the reader? It is if it is not refused itself, or only for its value (22, 25, 35, 36).
 // Refusals below 20 say nothing of it. A 30 says that the candidate needs one instance where there is a group; only `)` just meets it.
@@ -107,6 +108,35 @@ fn mark(
     }
 }
 
+// The index of a candidate in the list; 127 where there is none.
+fn index_of(list: &[u8], candidate: &[u8]) -> usize {
+    let mut k = 0;
+    while k < 127 {
+        if text::part::same(split::word(list, k), candidate) {
+            return k;
+        }
+        k += 1;
+    }
+    127
+}
+
+// In the shop's call, unmarks what the profile leaves out, which it refuses only in a whole rule: `broadcast`; `event` where a reading may begin, as with `var`; and
+// elsewhere a number in the place of which a name may stand.
+fn leave_out(list: &[u8], call: Call, marks: &mut [u8]) {
+    let habit = call.habit;
+    if profile::any_form(habit) {
+        return;
+    }
+    marks::set(marks, index_of(list, b"broadcast"), false);
+    if marks::has(marks, index_of(list, b"var")) {
+        marks::set(marks, index_of(list, b"event"), false);
+        return;
+    }
+    if marks::has(marks, index_of(list, b"\"x\"")) {
+        marks::set(marks, index_of(list, b"1"), false);
+    }
+}
+
 // The index of a marked candidate that nearly is the word; 128 where there is none.
 fn near_item(list: &[u8], marks: &[u8], word: &[u8]) -> usize {
     let mut k = 4;
@@ -169,6 +199,7 @@ pub fn show(text: &[u8], sheet: &[u8], words: &[u32], f: Fault) {
         f.call,
         &mut marks,
     );
+    leave_out(list, f.call, &mut marks);
     let is_in = may_end(&trial, start, sheet, &mut trial_words, f.call);
     marks::set(&mut marks, 127, is_in);
     lines(list, &marks, word_at(text, words, f), f.line);

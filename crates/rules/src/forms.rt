@@ -34,7 +34,7 @@ device device(\"Gateway\") is online
 sun sun is up` or `sun is down
 time time in 21:00..sunrise + 30m
 group group(\"Sales floor\") any_on` or `all_off
-hcl hcl is overridden for group(1)
+hcl hcl is overridden for group(\"Sales floor\")
 lamp lamp(\"Till\") is on` or `lamp(\"Till\").level >= 100
 input input(\"Door\", 1) is occupied` or `.light below 300
 var var(\"mode\") == \"night\"` or `var(\"count\") < 5";

@@ -4,6 +4,7 @@ use crate::forms;
 use crate::lookup;
 use crate::out;
 use crate::range;
+use crate::shop;
 use crate::topic;
 
 // By the number of the refusal.
@@ -28,7 +29,7 @@ fn of_input(number: u32) {
 26 name it: `group=`, `type=` or `adapter=`; the first two are `dev` and `inst`
 27 drop `group`, or drop `dev` and `inst`
 28 add `dev=` and `inst=`, or `group=`
-29 add the instance, as in `input(5, 0)` or `inst=0`";
+29 add the instance, as in `input(\"Door\", 0)` or `inst=0`";
     out::entry(table, number);
 }
 
@@ -73,6 +74,10 @@ pub fn show(text: &[u8], sheet: &[u8], lent: &[u8], words: &[u32], f: Fault) {
     }
     if 31 <= f.number && f.number <= 34 {
         lookup::show(text, sheet, words, f);
+        return;
+    }
+    if shop::is_of_shop(f.number) {
+        shop::help(text, sheet, words, f);
         return;
     }
     if topic::is_of_topic(f.number) {

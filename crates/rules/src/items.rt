@@ -11,7 +11,7 @@ pub struct Written {
     pub adapter: u32,
 }
 
-fn key(k: usize) {
+pub fn key(k: usize) {
     out::bytes(b"adapter=");
     out::number(k as u64);
 }
@@ -78,7 +78,7 @@ fn item(name: &[u8], w: Written, k: usize) {
 }
 
 // What stands before the first of so many that are left of all: a comma, but before the last the given word.
-fn separator(left: usize, all: usize, last: &[u8]) {
+pub fn separator(left: usize, all: usize, last: &[u8]) {
     if left == all {
         return;
     }

@@ -11,9 +11,11 @@ use crate::seen;
 use crate::sheets;
 use crate::sheets::Question;
 use crate::split;
+use sheet::Call;
+use sheet::profile;
 
 // Says for which party the sheet lists adapters, if not all adapters are the party's.
-fn for_party(sheet: &[u8], party: u8) {
+pub fn for_party(sheet: &[u8], party: u8) {
     if seen::is_shared(sheet, party) {
         say::number(party as u32, b"for party %n0 ");
     }
@@ -185,30 +187,36 @@ fn needed(primary: u8, kind: u32, scope: u32, adapter: u32) -> u32 {
     adapter
 }
 
-// The numbers in a set as references, and what to add to the sheet first.
-fn numbers(sheet: &[u8], marks: &[u8], kind: u32, adapter: u32) {
+// The numbers in a set as references, and what to add to the sheet first; nothing where a call takes no numbers.
+fn numbers(sheet: &[u8], marks: &[u8], kind: u32, adapter: u32, call: Call) {
+    let habit = call.habit;
+    if !profile::any_form(habit) {
+        return;
+    }
     let w = Written {
         kind,
         numbers: true,
         adapter,
     };
+    out::bytes(b"write ");
     items::show(b"", w, marks, b" or ");
     to_list_one(sheet, adapter);
+    out::bytes(b"; or ");
 }
 
 // 33: the numbers of the rows that have the name.
-fn several(sheet: &[u8], name: &[u8], kind: u32, scope: u32, primary: u8) {
+fn several(sheet: &[u8], name: &[u8], kind: u32, scope: u32, call: Call) {
     let mut marks = [0u8; 256];
     let adapter = one_adapter(sheet, name, kind, scope);
     sheets::mark_rows(sheet, asked(kind, adapter, 1), name, true, &mut marks);
     say::set(
         &marks,
         adapter,
-        b"adapter %n0 has it under the numbers %M0: write ",
+        b"adapter %n0 has it under the numbers %M0: ",
     );
-    let behind = needed(primary, kind, scope, adapter);
-    numbers(sheet, &marks, kind, behind);
-    out::bytes(b"; or rename one on the sheet");
+    let behind = needed(call.primary, kind, scope, adapter);
+    numbers(sheet, &marks, kind, behind, call);
+    out::bytes(b"rename one on the sheet");
 }
 
 // The way out of 31 to 34.
@@ -221,7 +229,7 @@ pub fn show(text: &[u8], sheet: &[u8], words: &[u32], f: Fault) {
     }
     if f.number == 33 {
         let scope = reference::adapter(text, words, f.count, f.token);
-        several(sheet, name, kind, scope, f.call.primary);
+        several(sheet, name, kind, scope, f.call);
         return;
     }
     elsewhere(sheet, name, kind);

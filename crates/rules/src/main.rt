@@ -24,6 +24,7 @@ mod say;
 mod seen;
 mod sheet_fault;
 mod sheets;
+mod shop;
 mod source;
 mod split;
 mod stands;
@@ -44,6 +45,8 @@ Options of check stand before its files:
 
   --archive       reads as the archive loader does: a repeated argument of an input replaces the earlier one; otherwise
                   a repeat is refused
+  --shop          reads under the shop profile: a rule has to name each lamp, group, device and input device, and has no
+                  broadcast and no reading of event. It does not go together with --archive
   --party P       reads for party P, 0 to 255; otherwise for party 0. On a shared sheet the row party,A,P says that
                   adapter A is party P's, and an adapter without such a row is party 0's. What is on adapters of other
                   parties is as if it were not on the sheet
@@ -69,10 +72,11 @@ fn bad_arguments(wrong: u32) {
 2 tokens takes one file: a rule
 3 there is no such option; before the name of a file that begins with a dash write ./
 4 behind --party, as behind --primary, stands a number from 0 to 255 without leading zeros
-5 an option is given twice";
+5 an option is given twice
+6 --archive and --shop do not go together";
     out::entry(table, wrong);
     out::bytes(
-        b"\nusage: rules check [--archive] [--party P] [--primary A] [--topics FILE] RULES SHEET | rules tokens RULES | rules help\nrefused: bad arguments\n",
+        b"\nusage: rules check [--archive | --shop] [--party P] [--primary A] [--topics FILE] RULES SHEET | rules tokens RULES | rules help\nrefused: bad arguments\n",
     );
 }
 

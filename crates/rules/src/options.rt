@@ -15,10 +15,14 @@ const NO_NUMBER: u32 = 4;
 // An option is given twice.
 const TWICE: u32 = 5;
 
+// The archive loader's habit and the shop profile are asked for together.
+const BOTH: u32 = 6;
+
 // What the options say, NONE for a number that is not given, and the index of the word that names the file of topics; the index of the word behind them; and
 // what is wrong with them, 0 for nothing.
 pub struct Options {
     pub archive: bool,
+    pub shop: bool,
     pub party: u32,
     pub primary: u32,
     pub topics: usize,
@@ -80,8 +84,24 @@ fn with_archive(o: Options, count: usize) -> Options {
     if o.archive {
         return refused(o, TWICE);
     }
+    if o.shop {
+        return refused(o, BOTH);
+    }
     let mut other = o;
     other.archive = true;
+    other.at = further(o.at, 1, count);
+    other
+}
+
+fn with_shop(o: Options, count: usize) -> Options {
+    if o.shop {
+        return refused(o, TWICE);
+    }
+    if o.archive {
+        return refused(o, BOTH);
+    }
+    let mut other = o;
+    other.shop = true;
     other.at = further(o.at, 1, count);
     other
 }
@@ -121,6 +141,9 @@ fn with_option(o: Options, word: &[u8], count: usize) -> Options {
     if text::part::same(word, b"--archive") {
         return with_archive(o, count);
     }
+    if text::part::same(word, b"--shop") {
+        return with_shop(o, count);
+    }
     if text::part::same(word, b"--party") {
         return with_number(o, true, o.party, count);
     }
@@ -146,10 +169,11 @@ fn with_next(o: Options, count: usize) -> Options {
     with_option(o, text::part::part(&word, 0, n), count)
 }
 
-// The options of a call with so many words, its own name and the command among them. There are four; a fifth is one too many.
+// The options of a call with so many words, its own name and the command among them. Four of them go together; a fifth is one too many.
 pub fn read(count: usize) -> Options {
     let mut o = Options {
         archive: false,
+        shop: false,
         party: NONE,
         primary: NONE,
         topics: NO_TOPICS,

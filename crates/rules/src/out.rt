@@ -151,6 +151,30 @@ pub fn skip(w: &[u8], at: usize, count: usize) -> usize {
     i
 }
 
+// Is the character at an offset shown as it is?
+fn is_shown_at(w: &[u8], i: usize) -> bool {
+    let d = text::utf8::decode(w, i);
+    match d {
+        Decoded::Char { code, next: _ } => !is_hidden(code),
+        Decoded::Bad => false,
+        Decoded::End => true,
+    }
+}
+
+// Is every character of w shown as it is?
+pub fn is_shown(w: &[u8]) -> bool {
+    let mut i = 0;
+    let mut left = w.len();
+    while left > 0 {
+        if !is_shown_at(w, i) {
+            return false;
+        }
+        i = behind(w, i);
+        left -= 1;
+    }
+    true
+}
+
 // What stands for characters that are left out.
 pub fn ellipsis() {
     bytes(b"\xE2\x80\xA6");

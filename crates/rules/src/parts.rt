@@ -5,7 +5,7 @@ use crate::sheets;
 use crate::sheets::Question;
 
 // The word of a kind: 1 lamp, 2 group, 3 device, 4 input device.
-fn kind_word(kind: u32) {
+pub fn kind_word(kind: u32) {
     if kind == 4 {
         out::bytes(b"input device");
         return;

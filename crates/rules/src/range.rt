@@ -15,11 +15,10 @@ fn put(trial: &mut [u8], text: &[u8], from: usize, behind: usize, number: &[u8])
     trial::bytes(trial, at, text::part::part(text, behind, text.len()))
 }
 
-// Does the reader take a number at the place?
-fn is_in_range(text: &[u8], sheet: &[u8], f: Fault, behind: usize, number: &[u8]) -> bool {
+// Asks the reader for a number at the place.
+fn ask(text: &[u8], sheet: &[u8], f: Fault, behind: usize, number: &[u8], answer: &mut [u32]) {
     let mut trial = [0u8; 20000];
     let mut words = [0u32; tokens::lexer::LEAST_WORDS];
-    let mut answer = [0u32; 108];
     let at = put(&mut trial, text, f.at, behind, number);
     reading::read(
         f.call,
@@ -27,9 +26,22 @@ fn is_in_range(text: &[u8], sheet: &[u8], f: Fault, behind: usize, number: &[u8]
         sheet,
         b"",
         &mut words,
-        &mut answer,
+        answer,
     );
+}
+
+// Does the reader take a number at the place?
+fn is_in_range(text: &[u8], sheet: &[u8], f: Fault, behind: usize, number: &[u8]) -> bool {
+    let mut answer = [0u32; 108];
+    ask(text, sheet, f, behind, number, &mut answer);
     is_taken(&answer, text::place::count_up(f.line))
+}
+
+// Is every number at the place refused by the shop profile, since a name belongs there?
+fn is_id(text: &[u8], sheet: &[u8], f: Fault, behind: usize) -> bool {
+    let mut answer = [0u32; 108];
+    ask(text, sheet, f, behind, b"0", &mut answer);
+    layout::number(&answer) == 57 && layout::line(&answer) == text::place::count_up(f.line)
 }
 
 // Is the number, which stands on a line, taken?
@@ -59,7 +71,12 @@ pub fn show(text: &[u8], sheet: &[u8], words: &[u32], f: Fault) {
     let list = b"15 31 63 254 255 1023";
     let start = tokens::record::start(words, f.token) as usize;
     let length = tokens::record::length(words, f.token) as usize;
-    let found = greatest(text, sheet, f, start + length, list);
+    let behind = start + length;
+    if is_id(text, sheet, f, behind) {
+        out::bytes(b"write its name in quotes: the shop profile takes no number here");
+        return;
+    }
+    let found = greatest(text, sheet, f, behind, list);
     if found == 0 {
         out::bytes(b"the manual has the range of each number");
         return;

@@ -22,6 +22,9 @@ pub fn read(
         Habit::Archive => {
             tergyosul::tergyosul_read_archive(text, sheet, lent, party, primary, words, answer)
         }
+        Habit::Shop => {
+            tergyosul::tergyosul_read_shop(text, sheet, lent, party, primary, words, answer)
+        }
     }
 }
 

@@ -2,6 +2,8 @@
 use crate::marks;
 use crate::split;
 use crate::trial;
+use sheet::Call;
+use sheet::Settings;
 use sheet::adapters;
 use sheet::adapters::Adapters;
 use sheet::line;
@@ -12,6 +14,21 @@ use sheet::rows;
 fn own(sheet: &[u8], party: u8) -> Adapters {
     let survey = rows::check(sheet, party as u32);
     survey.said.own
+}
+
+// What a call goes by, on a well-formed sheet.
+pub fn settings(sheet: &[u8], call: Call) -> Settings {
+    let survey = rows::check(sheet, call.party as u32);
+    let said = survey.said;
+    let own = said.own;
+    let listed = said.listed;
+    let habit = call.habit;
+    Settings {
+        primary: call.primary as u32,
+        habit,
+        own,
+        listed,
+    }
 }
 
 // Is the adapter the party's?

@@ -4,6 +4,7 @@ use crate::out;
 use crate::reference;
 use crate::say;
 use crate::seen;
+use crate::shop;
 use crate::split;
 use crate::topic;
 
@@ -133,6 +134,10 @@ pub fn show(text: &[u8], sheet: &[u8], words: &[u32], f: Fault) {
     }
     if is_of_sheet(f.number) {
         of_sheet(text, sheet, words, f);
+        return;
+    }
+    if shop::is_of_shop(f.number) {
+        shop::title(text, words, f);
         return;
     }
     if topic::is_of_topic(f.number) {

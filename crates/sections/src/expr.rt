@@ -16,6 +16,7 @@ use references::refs;
 use references::refs::IndexAnswer;
 use references::refs::RefAnswer;
 use sheet::Settings;
+use sheet::profile;
 use tokens::cursor::Accepted;
 use tokens::cursor::Cursor;
 use tokens::cursor::Refusal;
@@ -223,9 +224,21 @@ fn sun_reading(c: Cursor, text: &[u8], words: &[u32]) -> ReadingAnswer
     }
 }
 
-fn event_reading(c: Cursor, text: &[u8], words: &[u32]) -> ReadingAnswer
-    ensures { λ r. ⌜ r ≡ toReading (eventReading (tokens (now (text .entry)) (now (words .entry))) (c .index)) ⌝ }
+// A reading of `event`, whose word stands at an index, where it may stand; else 59.
+fn event_reading(
+    word: usize,
+    c: Cursor,
+    text: &[u8],
+    words: &[u32],
+    s: &[u8],
+    settings: Settings,
+) -> ReadingAnswer
+    ensures { λ r. ⌜ r ≡ toReading (eventReading (tokens (now (text .entry)) (now (words .entry))) (viewOf settings (now (s .entry))) word (c .index)) ⌝ }
 {
+    let habit = settings.habit;
+    if !profile::any_form(habit) {
+        return ReadingAnswer::No(tokens::cursor::refuse(59, word));
+    }
     let property = c.expect_point_choice(text, words, b"value device instance option");
     match property {
         Taken::No(refusal) => return ReadingAnswer::No(refusal),
@@ -249,16 +262,17 @@ fn var_reading(c: Cursor, text: &[u8], words: &[u32]) -> ReadingAnswer
     }
 }
 
-// The reading with the n-th first word.
+// The reading with the n-th first word, which stands at an index.
 fn reading_by(
     n: u32,
+    word: usize,
     behind: Cursor,
     text: &[u8],
     words: &[u32],
     s: &[u8],
     settings: Settings,
 ) -> ReadingAnswer
-    ensures { λ r. ⌜ r ≡ toReading (readingBy (tokens (now (text .entry)) (now (words .entry))) (viewOf settings (now (s .entry))) (rangeOf (now (words .entry))) (capacity (now (words .entry))) n (behind .index)) ⌝ }
+    ensures { λ r. ⌜ r ≡ toReading (readingBy (tokens (now (text .entry)) (now (words .entry))) (viewOf settings (now (s .entry))) (rangeOf (now (words .entry))) (capacity (now (words .entry))) word n (behind .index)) ⌝ }
 {
     match n {
         0 => return lamp_reading(behind, text, words, s, settings),
@@ -266,7 +280,7 @@ fn reading_by(
         2 => return input_reading(behind, text, words, s, settings),
         3 => return time_reading(behind, text, words),
         4 => return sun_reading(behind, text, words),
-        5 => return event_reading(behind, text, words),
+        5 => return event_reading(word, behind, text, words, s, settings),
         _ => return var_reading(behind, text, words),
     }
 }
@@ -275,10 +289,11 @@ fn reading_by(
 pub fn reading(c: Cursor, text: &[u8], words: &[u32], s: &[u8], settings: Settings) -> ReadingAnswer
     ensures { λ r. ⌜ r ≡ toReading (readingAt (tokens (now (text .entry)) (now (words .entry))) (viewOf settings (now (s .entry))) (rangeOf (now (words .entry))) (capacity (now (words .entry))) (c .index)) ⌝ }
 {
+    let i = c.index;
     let family = c.expect_choice(text, words, b"lamp group input time sun event var", 20);
     match family {
         Taken::No(refusal) => return ReadingAnswer::No(refusal),
-        Taken::Got(n, behind) => return reading_by(n, behind, text, words, s, settings),
+        Taken::Got(n, behind) => return reading_by(n, i, behind, text, words, s, settings),
     }
 }
 

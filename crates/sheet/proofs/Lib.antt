@@ -8,3 +8,4 @@ pub mod ViewLaws
 pub mod PartyLaws
 pub mod RangeLaws
 pub mod SurveyLaws
+mod NamesLaws

@@ -12,7 +12,7 @@ use Rattle.model.specs.Limits.{lastAdapter}
 use Rattle.sheet.specs.Line.{lineOf, nameOf}
 use Rattle.sheet.specs.Sheet.{lines, Entry, entryBy, entries, isListing, lists, isOwnerOf, hasOwner, primaryLine}
 use Rattle.sheet.specs.Party.{ownerBy, ownerOf, owns, entriesOn, Own-row, adapter-row, named-row, ownRowBy, ownRows, Agree}
-use Rattle.sheet.specs.View.{mayRepeat, seen, ownPrimary}
+use Rattle.sheet.specs.View.{mayRepeat, anyForm, seen, ownPrimary}
 use Rattle.sheet.specs.declared.Habit.{Habit}
 use Rattle.sheet.specs.declared.Call.{Call}
 use Rattle.sheet.specs.declared.line.Line.{Line}
@@ -149,6 +149,7 @@ pub undivided : (habit : Habit) (s : List ℕ) → ((a : ℕ) → hasOwner a (li
       listed = λ a. lists a (lines s);
       rows = entries (lines s);
       repeats = mayRepeat habit;
+      allows = λ i. anyForm habit;
     }
 unfolding seen owns
 undivided habit s none =

@@ -21,10 +21,10 @@ use Rattle.sheet.proofs.RangeLaws.{Line-in-range, line-in, Rows-in-rang
 use Rattle.sheet.proofs.SkipLaws.{by-order}
 
 -- two views with the same primary adapter and the same habit
-pub same-view : {primary : ℕ} {repeats : Bool} {l m : ℕ → Bool} {r q : List Entry} → ((a : ℕ) → l a ≡ m a) → r ≡ q →
+pub same-view : {primary : ℕ} {repeats : Bool} {allows l m : ℕ → Bool} {r q : List Entry} → ((a : ℕ) → l a ≡ m a) → r ≡ q →
     _≡_ {A = View}
-    (record { primary = primary; listed = l; rows = r; repeats = repeats })
-    (record { primary = primary; listed = m; rows = q; repeats = repeats })
+    (record { primary = primary; listed = l; rows = r; repeats = repeats; allows = allows })
+    (record { primary = primary; listed = m; rows = q; repeats = repeats; allows = allows })
 same-view h k = rw (fun-ext h, k)
 
 -- no line lists an adapter above the last

@@ -9,3 +9,4 @@ pub mod View
 pub mod Resolve
 pub mod Tally
 pub mod Picks
+pub mod Names

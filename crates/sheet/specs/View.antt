@@ -10,17 +10,27 @@ use Rattle.sheet.specs.declared.Habit.{Habit}
 use Rattle.sheet.specs.declared.Call.{Call}
 use Rattle.sheet.specs.declared.Settings.{Settings}
 
--- the primary adapter, which adapters are listed, the rows with names, and whether an argument of `input(` may be repeated
+-- the primary adapter, which adapters are listed, the rows with names, whether an argument of `input(` may be repeated, and at which tokens, by
+-- their index, the forms may stand that the shop profile leaves out: an id of a reference, `broadcast`, and the `event` of a reading
 pub record View : Type 0 where
   pub primary : ℕ
   pub listed : ℕ → Bool
   pub rows : List Entry
   pub repeats : Bool
+  pub allows : ℕ → Bool
 
 -- document 02, §11: "By default a repeat is now turned away; the archive loader keeps a call with the old habit, unchanged."
 unfoldable pub mayRepeat : Habit → Bool
 mayRepeat Habit.Rule = false
 mayRepeat Habit.Archive = true
+mayRepeat Habit.Shop = false
+
+-- document 02, §9: "Under the profile each lamp, group, device and input device in use is named, instance groups aside, there is no broadcast, and no
+-- `event` reading." In a call without repeats every reference of a reading is in use.
+unfoldable pub anyForm : Habit → Bool
+anyForm Habit.Rule = true
+anyForm Habit.Archive = true
+anyForm Habit.Shop = false
 
 -- document 02, §6: "A call names its party and its own primary adapter, which stands in for the sheet's." "Only rows on the party's adapters are
 -- candidates, and another's adapter counts as not listed."
@@ -31,6 +41,7 @@ seen call s =
       listed = λ a. pick (owns (call .party) (lines s) a) (lists a (lines s)) false;
       rows = entriesOn (owns (call .party) (lines s)) (entries (lines s));
       repeats = mayRepeat (call .habit);
+      allows = λ i. anyForm (call .habit);
     }
 
 -- whether the call's primary adapter is its party's (53)
@@ -55,4 +66,5 @@ viewOf settings s =
       listed = λ a. pick (has (settings .own) a) (has (settings .listed) a) false;
       rows = entriesOn (has (settings .own)) (entries (lines s));
       repeats = mayRepeat (settings .habit);
+      allows = λ i. anyForm (settings .habit);
     }

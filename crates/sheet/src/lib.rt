@@ -2,15 +2,19 @@
 pub mod adapters;
 pub mod kind;
 pub mod line;
+pub mod names;
+pub mod profile;
 pub mod resolve;
 pub mod rows;
 
 use adapters::Adapters;
 
-// What a call does with a repeated argument of `input(`: by the rule it is refused; the archive loader lets it replace the earlier one.
+// Which texts a call takes. By default a repeated argument of `input(` is refused; the archive loader lets it replace the earlier one; under the
+// shop profile there is besides no numbered reference, no broadcast and no `event` reading.
 pub enum Habit {
     Rule,
     Archive,
+    Shop,
 }
 
 // What a call names beside its text and its sheet: whose call it is, and the adapter of a reference that names none.

@@ -1,5 +1,5 @@
--- No answer of the whole call has the number `noRoom`: the result of `tergyosul_read`, or of `tergyosul_read_archive`, is that number just where there is
--- no room.
+-- No answer of the whole call has the number `noRoom`: the result of `tergyosul_read`, of `tergyosul_read_archive` or of `tergyosul_read_shop` is that
+-- number just where there is no room.
 use Prim.Native.Nat.{ℕ, _<_, _≤_}
 use native.Mathlib.Omega.{arith}
 use mathlib.Core.Path.{_≡_, refl}
@@ -22,9 +22,9 @@ use Rattle.sheet.specs.View.{View, seen, ownPrimary}
 use Rattle.sheet.specs.declared.Call.{Call}
 use Rattle.model.specs.Lists.{acceptedWith, refusedWith}
 use Rattle.references.proofs.NumberLaws.{Refuses, refusal-most}
-use Rattle.language.proofs.RefusalLaws.{rule-refuses}
+use Rattle.language.proofs.RefusalLaws.{call-refuses}
 use Rattle.language.specs.Section.{Lists}
-use Rattle.language.specs.Read.{parsed, ruleOf, lexedFrom, byPrimary, byText, bySheet, Outcome, readOf}
+use Rattle.language.specs.Read.{parsed, lexedFrom, byPrimary, byText, bySheet, Outcome, readOf}
 use Rattle.flat.specs.Flat.{answerWords}
 use Rattle.tergyosul.specs.Room.{noRoom, byRoom}
 
@@ -50,8 +50,8 @@ parsed-known l (no r) h = refusal-most _ h
 
 lexed-known : (text : List ℕ) (view : View) (lent : List ℕ) (whole l : Lexing) {before : List Character} → Laid text before l →
     Known (lexedFrom text view lent whole l .number)
-unfolding lexedFrom refusedWith ruleOf
-lexed-known text view lent whole l (end gap t h) = parsed-known whole _ (rule-refuses _ _ _ _ _)
+unfolding lexedFrom refusedWith
+lexed-known text view lent whole l (end gap t h) = parsed-known whole _ (call-refuses text _ view lent)
 lexed-known text view lent whole l (refusal gap c rest t h n) = lexical-known n
 lexed-known text view lent whole l (next gap u rest t s h k) = lexed-known text view lent whole _ k
 

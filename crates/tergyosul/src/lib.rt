@@ -6,7 +6,7 @@ ghost use mathlib.Core.Path.{_≡_};
 ghost use Rattle.tokens.specs.Lex.{lexAnswer, lexWords};
 ghost use Rattle.tokens.specs.Buffer.{lexNumber};
 ghost use Rattle.sheet.specs.Sheet.{lines, primaryLine};
-ghost use Rattle.language.specs.Read.{readOf, ruleCall, archiveCall};
+ghost use Rattle.language.specs.Read.{readOf, ruleCall, archiveCall, shopCall};
 ghost use Rattle.tergyosul.specs.Lexing.{fourFirst, lexFlat};
 ghost use Rattle.tergyosul.specs.Room.{noRoom, lexAnswerWords, byRoom};
 ghost use Rattle.flat.specs.Flat.{answerWords, flat};
@@ -63,7 +63,7 @@ pub extern "C" fn tergyosul_lex(text: &[u8], words: &mut [u32], answer: &mut [u3
     }
 }
 
-// The call of either habit.
+// The call of any habit.
 fn read_by(
     call: Call,
     text: &[u8],
@@ -133,6 +133,35 @@ pub extern "C" fn tergyosul_read_archive(
     read_by(
         Call {
             habit: Habit::Archive,
+            party,
+            primary,
+        },
+        text,
+        sheet,
+        lent,
+        words,
+        answer,
+    )
+}
+
+// The shop's call: what `tergyosul_read` answers, less the forms that the profile leaves out, which are refused with 57, 58 and 59.
+#[no_mangle]
+pub extern "C" fn tergyosul_read_shop(
+    text: &[u8],
+    sheet: &[u8],
+    lent: &[u8],
+    party: u8,
+    primary: u8,
+    words: &mut [u32],
+    answer: &mut [u32],
+) -> u32
+    ensures number { λ r. ⌜ r ≡ byRoom answerWords (now (answer .entry)) noRoom (readOf (shopCall party primary) (now (text .entry)) (now (sheet .entry)) (now (lent .entry)) (now (words .entry)) .answer .number) ⌝ }
+    ensures words { λ _. ⌜ now (words .exit) ≡ byRoom answerWords (now (answer .entry)) (now (words .entry)) (readOf (shopCall party primary) (now (text .entry)) (now (sheet .entry)) (now (lent .entry)) (now (words .entry)) .buffer) ⌝ }
+    ensures answer { λ _. ⌜ now (answer .exit) ≡ flat (now (answer .entry)) (readOf (shopCall party primary) (now (text .entry)) (now (sheet .entry)) (now (lent .entry)) (now (words .entry)) .answer) ⌝ }
+{
+    read_by(
+        Call {
+            habit: Habit::Shop,
             party,
             primary,
         },

@@ -7,7 +7,7 @@ pub enum Habit {
     Rule,
     /// The archive loader's call: a repeat replaces the earlier one.
     Archive,
-    /// The shop profile over the default call (document 02 §9); until that lands, the default call.
+    /// The shop profile over the default call (document 02 §9).
     Shop,
 }
 

@@ -1,6 +1,6 @@
 //! What a case covered, read off its answer in the replay format, and off its text for what the answer does not say.
 
-use crate::{durations, parties, records, repeats, topics};
+use crate::{durations, parties, profile, records, repeats, topics};
 use cases::Case;
 use std::io::{self, Write};
 
@@ -11,8 +11,8 @@ const TOKENS: &[&str] = &[
 /// The refusals of document 01, without 5 to 9 and 14, and of document 02.
 const REFUSALS: &[&str] = &[
     "1", "2", "3", "4", "10", "11", "12", "13", "15", "16", "17", "18", "19", "20", "21", "22", "23", "24", "25", "26", "27",
-    "28", "29", "30", "31", "32", "33", "34", "35", "36", "37", "38", "39", "40", "41", "53",
-    "63", "64", "65", "66",
+    "28", "29", "30", "31", "32", "33", "34", "35", "36", "37", "38", "39", "40", "41", "53", "57", "58", "59", "63", "64", "65",
+    "66",
 ];
 
 const TRIGGERS: &[&str] = &[
@@ -64,7 +64,7 @@ const GROUPS: &[(&str, &[&str])] = &[
     ("event", EVENTS), ("selector", SELECTORS), ("target", TARGETS), ("bound", BOUNDS), ("comparison", COMPARISONS),
     ("value", VALUES), ("choice", CHOICES), ("count", COUNTS), ("duration", durations::SORTS),
     ("buffer", records::SORTS), ("repeat", repeats::SORTS), ("party", parties::SORTS), ("topic", topics::SORTS),
-    ("line", repeats::LINES),
+    ("profile", profile::SORTS), ("line", repeats::LINES),
 ];
 
 /// The places of the groups in `GROUPS`.
@@ -86,11 +86,16 @@ const BUFFER: usize = 14;
 const REPEAT: usize = 15;
 const PARTY: usize = 16;
 const TOPIC: usize = 17;
-const LINE: usize = 18;
+const PROFILE: usize = 18;
+const LINE: usize = 19;
+
+/// Room for the members.
+const WORDS: usize = 10;
+pub const MOST_FEATURES: usize = WORDS * 64;
 
 /// The set of what one answer shows; each member is numbered along `GROUPS`.
 #[derive(Debug, Clone, Copy, Default, PartialEq, Eq, Hash, PartialOrd, Ord)]
-pub struct Features([u64; 8]);
+pub struct Features([u64; WORDS]);
 
 /// The number of members there are.
 pub fn feature_count() -> usize {
@@ -117,6 +122,7 @@ impl Features {
         repeats::sorts(case, answer).iter().for_each(|sort| set.mark(REPEAT, Some(sort)));
         parties::sorts(case, answer).into_iter().for_each(|sort| set.mark(PARTY, Some(sort)));
         topics::sorts(case, answer).iter().for_each(|sort| set.mark(TOPIC, Some(sort)));
+        profile::sorts(case, answer).iter().for_each(|sort| set.mark(PROFILE, Some(sort)));
         set.mark(LINE, Some(repeats::line(case)));
         for line in answer.lines() {
             let mut fields = line.split(' ');

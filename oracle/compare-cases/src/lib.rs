@@ -6,6 +6,7 @@ pub mod external;
 pub mod features;
 pub mod options;
 mod parties;
+mod profile;
 pub mod readers;
 mod records;
 mod repeats;

@@ -1,6 +1,7 @@
 //! What a case shows of document 02 §6: who is refused with 53 and what else would have been said, which answers another's
 //! rows would have changed, and where the call's primary counts.
 
+use crate::profile::full_refusal;
 use crate::tokens::{refusal, tokens};
 use cases::{own_primary, Case};
 use std::collections::BTreeMap;
@@ -77,7 +78,7 @@ pub fn sorts(case: &Case, answer: &str) -> Vec<&'static str> {
 }
 
 /// What is said where every adapter is the party's.
-fn if_all_were_own(case: &Case) -> String {
+pub fn if_all_were_own(case: &Case) -> String {
     let lines = lines(&case.sheet);
     let sheet = lines.into_iter().filter(|line| party_row(line).is_none()).collect::<Vec<_>>().join(&b'\n');
     second::answer(&Case { sheet, ..case.with_party(0, case.primary()) })
@@ -99,7 +100,7 @@ fn bad_line(lines: &[&[u8]], said: Option<(&str, &str)>) -> Option<&'static str>
 
 fn primary_refused(case: &Case, parties: &Parties) -> Vec<&'static str> {
     let otherwise = if_all_were_own(case);
-    let number = refusal(&otherwise).and_then(|(number, _)| number.parse::<u32>().ok());
+    let number = full_refusal(&otherwise).and_then(|(number, _)| number.parse::<u32>().ok());
     let mut sorts = vec![
         if parties.contains_key(&case.primary()) { "53 by a row" } else { "53 without a row" },
         if case.party() == 0 { "53 of party 0" } else { "53 of another party" },
@@ -140,12 +141,12 @@ fn sheets(case: &Case, lines: &[&[u8]], parties: &Parties) -> Vec<&'static str> 
 
 /// The answers that another's rows would have changed.
 fn changed(case: &Case, answer: &str, parties: &Parties) -> Option<&'static str> {
-    let said = refusal(answer);
+    let said = full_refusal(answer);
     if case.party() == 0 && parties.values().all(|row| row.1 == 0) {
         return None;
     }
     let otherwise = if_all_were_own(case);
-    let other = refusal(&otherwise);
+    let other = full_refusal(&otherwise);
     if other == said {
         return None;
     }

@@ -1,6 +1,7 @@
 //! The readers that are compared, and the comparison of one case.
 
 use crate::external::External;
+use crate::profile::refused_by_profile;
 use crate::tokens::refusal;
 use cases::{Case, Habit};
 use std::cell::Cell;
@@ -9,8 +10,8 @@ use std::panic::{self, AssertUnwindSafe};
 pub type Reader<'a> = &'a (dyn Fn(&Case) -> String + Sync);
 
 /// The second reader answers every case; the supplied one is held to it inside the domain, the replay program, if
-/// there is one, everywhere. The second reader's default call is held to its own archive call, and its call on one sheet to
-/// the same call on another that agrees for the party.
+/// there is one, everywhere. The second reader's default call is held to its own archive call, its shop call to its default call,
+/// and its call on one sheet to the same call on another that agrees for the party.
 pub struct Readers<'a> {
     pub second: Reader<'a>,
     pub in_domain: &'a (dyn Fn(&Case) -> bool + Sync),
@@ -26,6 +27,10 @@ pub enum Other {
     /// The second reader's archive call. "The archive loader keeps a call with the old habit, unchanged" (document 02
     /// §11): where the default call's answer is not 63, it is the archive call's.
     Archive,
+    /// The second reader's default call. "What the profile accepts is what the full reader accepts, less those forms, with equal
+    /// lists" (document 02 §9): where the shop call's answer is not 57 to 59, it is the default call's; where it is, the default
+    /// call accepts and leaves the same records.
+    Default,
     /// The second reader's call on another sheet. "For two accepted sheets that agree on which adapters are the party's, and on
     /// those adapters' rows in their order, the party's call gives the same answer" (document 02 §6).
     Beside,
@@ -37,6 +42,7 @@ impl Other {
             Other::Supplied => "the supplied Rust",
             Other::Replay => "the replay program",
             Other::Archive => "the archive call",
+            Other::Default => "the default call",
             Other::Beside => "the call on a sheet that agrees for the party",
         }
     }
@@ -69,6 +75,15 @@ pub fn refused_as_repeat(answer: &str) -> bool {
     matches!(refusal(answer), Some(("63", _)))
 }
 
+/// What the shop call must say whose answer is given, by what the default call says: the same, but with a refusal of the profile in
+/// the place of the lists.
+pub fn under_the_profile(default: String, shop: &str) -> String {
+    match (default.split_once("accepted "), shop.split_once("refused ")) {
+        (Some((records, _)), Some((_, refusal))) if refused_by_profile(shop) => format!("{records}refused {refusal}"),
+        _ => default,
+    }
+}
+
 /// Whether the answer shows that the sheet is accepted.
 pub fn past_question_3(answer: &str) -> bool {
     !matches!(refusal(answer), Some(("1" | "2" | "3", _)))
@@ -89,9 +104,12 @@ impl Readers<'_> {
             Other::Supplied => self.in_domain(case).then(|| guarded(self.supplied, case)),
             Other::Replay => Some(self.replay.as_ref()?.answer(case)),
             Other::Archive => {
-                let bound = case.habit() != Habit::Archive && !refused_as_repeat(&self.second(case));
+                let bound = case.habit() == Habit::Rule && !refused_as_repeat(&self.second(case));
                 bound.then(|| self.second(&case.with_habit(Habit::Archive)))
             }
+            Other::Default => (case.habit() == Habit::Shop).then(|| {
+                under_the_profile(self.second(&case.with_habit(Habit::Rule)), &self.second(case))
+            }),
             Other::Beside => {
                 let accepted = past_question_3(&self.second(case));
                 accepted.then(|| self.second(&generate::beside(case)))

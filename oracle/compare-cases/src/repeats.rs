@@ -1,6 +1,8 @@
 //! What a case shows of document 02 §11: which argument was repeated, what stood there, and what the archive call says.
 
-use crate::tokens::{refusal, tokens, Token};
+use crate::tokens::{
+    arguments, is, key, refusal, token_at, tokens, unnamed_before, Token, CLOSE, COMMA, INTEGER, STRING, WORD,
+};
 use cases::{Case, Habit};
 
 /// `63 for N` is a 63 where the archive call says N; `N first` is another refusal of the default call, with a repeat behind
@@ -16,17 +18,7 @@ pub const SORTS: &[&str] = &[
 ];
 
 /// The lines that a case can begin with.
-pub const LINES: &[&str] = &["case", "rule", "archive"];
-
-const KEYS: [&str; 5] = ["dev", "inst", "group", "type", "adapter"];
-
-const WORD: u32 = 1;
-const STRING: u32 = 2;
-const INTEGER: u32 = 3;
-const OPEN: u32 = 7;
-const CLOSE: u32 = 8;
-const COMMA: u32 = 11;
-const ASSIGN: u32 = 14;
+pub const LINES: &[&str] = &["case", "rule", "archive", "shop"];
 
 pub fn line(case: &Case) -> &'static str {
     case.settings.as_ref().map_or("case", |settings| settings.habit.word())
@@ -40,7 +32,7 @@ pub fn sorts(case: &Case, answer: &str) -> Vec<String> {
     }
     let Some((number, place)) = refusal(answer) else { return Vec::new() };
     let tokens: Vec<Token> = tokens(text, answer).collect();
-    let at = tokens.iter().position(|token| place.strip_suffix(" 0") == Some(token.place)).unwrap_or(tokens.len());
+    let at = token_at(&tokens, place);
     if second_clause(number, &tokens, at) {
         return vec!["20 for a second adapter clause".to_string()];
     }
@@ -72,23 +64,6 @@ fn instead(case: &Case) -> String {
     }
 }
 
-fn is(token: Option<&Token>, kind: u32) -> bool {
-    token.is_some_and(|token| token.kind == kind)
-}
-
-/// The index of the `(` of the ARGS that the token `at`, or the end, stands in.
-fn arguments(tokens: &[Token], at: usize) -> Option<usize> {
-    let open = (0..at).rev().find(|&before| tokens[before].kind == OPEN)?;
-    let input = open > 0 && tokens[open - 1].kind == WORD && tokens[open - 1].text == "input";
-    (input && !tokens[open..at].iter().any(|token| token.kind == CLOSE)).then_some(open)
-}
-
-/// The key at a token, if it is one of the five.
-fn key<'a>(tokens: &[Token<'a>], at: usize) -> Option<&'a str> {
-    let token = tokens.get(at).filter(|token| token.kind == WORD && KEYS.contains(&token.text))?;
-    is(tokens.get(at + 1), ASSIGN).then_some(token.text)
-}
-
 fn repeat_behind(tokens: &[Token], open: usize, at: usize) -> bool {
     let close = (at..tokens.len()).find(|&behind| tokens[behind].kind == CLOSE).unwrap_or(tokens.len());
     let stands_before = |name: &str, later: usize| (open..later).any(|earlier| key(tokens, earlier) == Some(name));
@@ -98,7 +73,7 @@ fn repeat_behind(tokens: &[Token], open: usize, at: usize) -> bool {
 
 fn second_clause(number: &str, tokens: &[Token], at: usize) -> bool {
     let clause = |at: usize| key(tokens, at) == Some("adapter");
-    number == "20" && at > 3 && is(tokens.get(at), COMMA) && clause(at - 3) && clause(at + 1)
+    number == "20" && at > 3 && is(tokens, at, COMMA) && clause(at - 3) && clause(at + 1)
 }
 
 /// Which argument the token `at` repeats, what stands there, and where the parentheses stand.
@@ -117,9 +92,7 @@ fn repeated(tokens: &[Token], open: usize, at: usize) -> Vec<String> {
         }
         return sorts;
     }
-    let begins = |&index: &usize| matches!(tokens[index - 1].kind, OPEN | COMMA);
-    let unnamed = (open + 1..at).filter(begins).filter(|&index| key(tokens, index).is_none()).count();
-    sorts.push(if unnamed == 0 { "63 unnamed dev" } else { "63 unnamed inst" }.to_string());
+    sorts.push(if unnamed_before(tokens, open, at) == 0 { "63 unnamed dev" } else { "63 unnamed inst" }.to_string());
     let there = match tokens.get(at).map(|token| token.kind) {
         None => "63 at the end",
         Some(CLOSE) => "63 at )",

@@ -1,7 +1,7 @@
 //! A run over many cases, in batches, on one thread or more.
 
 use crate::features::Coverage;
-use crate::readers::{past_question_3, refused_as_repeat, Other, Readers};
+use crate::readers::{past_question_3, refused_as_repeat, under_the_profile, Other, Readers};
 use crate::shrink::shrink;
 use cases::{Case, Habit};
 use std::io;
@@ -138,19 +138,25 @@ fn compare_beside(case: &Case, answer: &str, beside: Option<&Case>, readers: &Re
     (other != answer).then(|| Difference { case: case.clone(), other: Other::Beside, answer: other, alone: true })
 }
 
-/// The archive call of a case against the supplied Rust, if the domain has it, and its default call against its archive
-/// call. Says whether the domain has it.
+/// The archive call of a case against the supplied Rust, if the domain has it, its default call against its archive call, and its
+/// shop call against its default call. Says whether the domain has it.
 fn compare_habits(case: &Case, readers: &Readers) -> (bool, Option<Difference>) {
-    let (archive, default) = (case.with_habit(Habit::Archive), case.with_habit(Habit::Rule));
-    let (old, new) = (readers.second(&archive), readers.second(&default));
+    let [archive, default, shop] = [Habit::Archive, Habit::Rule, Habit::Shop].map(|habit| case.with_habit(habit));
+    let [old, new, shop_says] = [&archive, &default, &shop].map(|case| readers.second(case));
     let supplied = readers.other(Other::Supplied, &archive);
     let in_domain = supplied.is_some();
-    let differs = |case, other, answer| Some(Difference { case, other, answer, alone: true });
-    match supplied.filter(|supplied| *supplied != old) {
-        Some(answer) => (in_domain, differs(archive, Other::Supplied, answer)),
-        None if new != old && !refused_as_repeat(&new) => (in_domain, differs(default, Other::Archive, old)),
-        None => (in_domain, None),
+    let differs = |case, other, answer| (in_domain, Some(Difference { case, other, answer, alone: true }));
+    if let Some(answer) = supplied.filter(|supplied| *supplied != old) {
+        return differs(archive, Other::Supplied, answer);
     }
+    if new != old && !refused_as_repeat(&new) {
+        return differs(default, Other::Archive, old);
+    }
+    let due = under_the_profile(new, &shop_says);
+    if due != shop_says {
+        return differs(shop, Other::Default, due);
+    }
+    (in_domain, None)
 }
 
 /// The replay program differed at `at`. If it does not do so on that case alone, perhaps it does on a later one that

@@ -1,9 +1,11 @@
 use crate::external::split_answers;
-use crate::features::{feature_count, feature_name, Coverage, Features};
+use crate::features::{feature_count, feature_name, Coverage, Features, MOST_FEATURES};
 use crate::options;
+use crate::profile;
 use crate::readers::{guarded, past_question_3, quiet_panics, Other, Reader, Readers};
 use crate::run::{run, smallest, Difference, Outcome, Plan};
 use crate::shrink::shrink;
+use crate::tokens::{tokens, Token};
 use crate::vectors;
 use cases::{own_primary, Case, Habit, FORMER_LEAST_WORDS, LEAST_WORDS, MOST_WORDS};
 
@@ -131,7 +133,7 @@ fn features_are_read_off_an_answer() {
         "count T 2", "count C 3", "buffer least taken", "line case",
     ];
     assert_eq!(names, wanted);
-    assert!(feature_count() <= 512);
+    assert!(feature_count() <= MOST_FEATURES);
 }
 
 #[test]
@@ -201,7 +203,7 @@ fn the_default_call_is_held_to_the_archive_call() {
     };
     let found = difference(&unlike, &second::answer, 2).expect("a difference");
     assert_eq!((found.other, found.case.habit()), (Other::Archive, Habit::Rule));
-    assert!(found.case.text.len() < 40 && second::answer(&found.case).contains("refused 26"), "{}", found.case.text.escape_ascii());
+    assert!(found.case.text.len() < 100 && second::answer(&found.case).contains("refused 26"), "{}", found.case.text.escape_ascii());
     let strict = |case: &Case| second::answer(&case.with_habit(Habit::Rule));
     let readers = Readers { second: &strict, in_domain: &second::in_domain, supplied: &supplied::answer, replay: None };
     let plan = Plan { make: &generated, count: 30_000, batch: 1_000, threads: 1, progress: false };
@@ -434,6 +436,91 @@ fn the_generators_topics_are_what_they_are_called() {
         let text = [b"when mqtt \"", &topic[..], b"\""].concat();
         let taken = second::answer(&Case::new(1, LEAST_WORDS, text, b"primary,0")).contains("\naccepted 1 0\n");
         assert_eq!(generate::topics::fits(&topic), taken, "{}", topic.escape_ascii());
+    }
+}
+
+#[test]
+fn the_profile_and_what_comes_before_it_are_counted() {
+    let sheet = "primary,0\nadapter,0\nlamp,0,1,a\nlamp,0,2,b\nlamp,0,3,b\ninput,0,4,a\n";
+    let asked = |text: &str, lent: usize| {
+        shown("profile ", &Case::new(1, LEAST_WORDS, format!("when {text}"), sheet).with_habit(Habit::Shop).with_topics(numbered(lent)))
+    };
+    for (text, wanted) in [
+        ("lamp(3) turns on", "57 lamp in a trigger, at trigger 1"),
+        ("http trigger when group(3, adapter=0) becomes any_on", "57 group in a trigger, 57 with an adapter, at trigger 2"),
+        ("input device(dev=3) power cycled", "57 input device in a trigger, 57 behind dev =, at trigger 1"),
+        ("input(inst=1, 5) is press", "57 input in a trigger, 57 behind another argument, at trigger 1"),
+        ("lamp(\"a\") turns on\nif hcl is enabled for group(3)", "57 group in a target, at condition 1, past line 1, behind a name"),
+        ("http trigger if lamp(3).level > event.value", "57 lamp in a condition, 57 then 59, at condition 1"),
+        ("http trigger if sun is up and var(\"v\") == input(5, 1).light", "57 input in a reading, at condition 2"),
+        ("hcl override starts for broadcast if device(3) is online", "58 in a trigger, 58 then 57, at trigger 1"),
+        ("http trigger if hcl is enabled for broadcast", "58 in a condition, at condition 1"),
+        ("http trigger if lamp(\"a\").level > event.value + 5", "59 value, 59 for a lamp, 59 with a number, at condition 1, behind a name"),
+        ("http trigger if var(\"v\") == event.option and var(\"v\") == event.value", "59 option, 59 for a var, 59 then 59, at condition 1"),
+        ("lamp(\"a\", adapter=0).level crosses above 5", "takes lamp, takes an adapter, takes a bound"),
+        ("input(\"a\", 5, type=1) is event(data=5)", "takes input, takes a type, takes data"),
+        ("input(group=5) is press when scene(5) recalled", "takes a scene, takes an instance group, takes a text without names"),
+        ("hcl override starts for lamp(\"a\")", "takes lamp, takes a name in a target"),
+        ("http trigger if var(\"v\") == input(\"a\", 1).light and var(\"v\") > 5", "takes input, takes a value, takes a name in a reading"),
+        ("lamp(3) turns on foo", "41 first"),
+        ("lamp(3) turns on when lamp(\"b\") turns on", "33 first"),
+        ("lamp(3) turns on @", "lexing first"),
+        ("lamp(64) turns on", "22 of an id"),
+        ("input(3, dev=\"a\", inst=1) is press", "63 first"),
+        ("lamp(\"b\") turns on when lamp(3) turns on", ""),
+        ("foo lamp(3)", ""),
+    ] {
+        assert_eq!(asked(text, 0), wanted, "{text}");
+    }
+    assert_eq!(asked("lamp(3) turns on when mqtt \"a\"", 8), "66 first");
+    let case = Case::new(1, LEAST_WORDS, "when lamp(3) turns on", sheet).with_habit(Habit::Shop);
+    assert_eq!(shown("profile ", &Case { words: 0, ..case.clone() }), "2 first");
+    assert_eq!(shown("profile ", &case.with_party(7, 0)), "53 first");
+    assert_eq!((shown("profile ", &case.with_habit(Habit::Rule)), shown("line ", &case)), (String::new(), "shop".to_string()));
+}
+
+/// What the tokens of an accepted text show is what the second reader's shop call refuses.
+#[test]
+fn tokens_show_what_the_profile_leaves_out() {
+    let (mut taken, mut refused) = (0, 0);
+    for case in (0..30_000).map(generated) {
+        let [default, shop] = [Habit::Rule, Habit::Shop].map(|habit| second::answer(&case.with_habit(habit)));
+        let (Ok(text), true) = (std::str::from_utf8(&case.text), default.contains("\naccepted ")) else { continue };
+        let tokens: Vec<Token> = tokens(text, &default).collect();
+        match profile::left_out(&tokens).first() {
+            None => assert_eq!(shop, default, "{}", case.id),
+            Some((number, at)) => assert!(shop.ends_with(&format!("refused {number} {} 0\n", tokens[*at].place)), "{}", case.id),
+        }
+        taken += usize::from(shop == default);
+        refused += usize::from(shop != default);
+    }
+    assert!(taken > 1_000 && refused > 1_000, "{taken} {refused}");
+}
+
+/// Shop calls that differ from the default call in more than the profile are found: in the lists, in a refusal that the profile is
+/// to come behind, and in the records.
+#[test]
+fn the_shop_call_is_held_to_the_default_call() {
+    let of_shop = |case: &Case, change: fn(&Case, String) -> String| {
+        let answer = second::answer(case);
+        if case.habit() == Habit::Shop { change(case, answer) } else { answer }
+    };
+    let other_lists = |case: &Case| of_shop(case, |_, answer| answer.replace("press", "release"));
+    let profile_first = |case: &Case| of_shop(case, |case, answer| {
+        if contains(&case.text, b"broadcast") { answer.replace("refused 41 ", "refused 58 ") } else { answer }
+    });
+    let no_records = |case: &Case| of_shop(case, |_, answer| {
+        let lines = answer.split_inclusive('\n');
+        if answer.contains("refused 57") { lines.filter(|line| !line.starts_with("token")).collect() } else { answer }
+    });
+    let by_the_archive = |case: &Case| of_shop(case, |case, answer| {
+        if answer.contains("refused 63") { second::answer(&case.with_habit(Habit::Archive)) } else { answer }
+    });
+    let faulty: [Reader; 4] = [&other_lists, &profile_first, &no_records, &by_the_archive];
+    for faulty in faulty {
+        let found = difference(faulty, &second::answer, 1).expect("a difference");
+        assert_eq!((found.other, found.case.habit()), (Other::Default, Habit::Shop));
+        assert!(found.case.text.len() < 100, "{}", found.case.text.escape_ascii());
     }
 }
 

@@ -1,7 +1,8 @@
 //! What a case shows of document 02 §12: why a topic is refused, how far topics go that are taken, what follows them, and which
 //! of the lent lines decide.
 
-use crate::tokens::{refusal, tokens, Token};
+use crate::profile::full_refusal;
+use crate::tokens::{refusal, shown, tokens, Token, STRING, WORD};
 use cases::{Case, MOST_BYTES};
 use std::collections::BTreeSet;
 
@@ -25,8 +26,6 @@ pub const SORTS: &[&str] = &[
     "8 lent, accepted", "9 lent, accepted", "10 lent, accepted", "10 lent, none named", "not UTF-8 lent, accepted", "the most lent bytes",
 ];
 
-const STRING: u32 = 2;
-const WORD: u32 = 1;
 const LONGEST: usize = 48;
 const MOST_DIFFERENT: usize = 8;
 
@@ -54,8 +53,7 @@ pub fn sorts(case: &Case, answer: &str) -> Vec<String> {
         return (accepted && lent.len() >= 10).then(|| "10 lent, none named".to_string()).into_iter().collect();
     }
     let tokens: Vec<Token> = tokens(text, answer).collect();
-    let is = |at: usize, word: &str| tokens[at].kind == WORD && tokens[at].text == word;
-    let behind_mqtt = |at: &usize| is(at - 2, "when") && is(at - 1, "mqtt");
+    let behind_mqtt = |at: &usize| tokens[at - 2].is_word("when") && tokens[at - 1].is_word("mqtt");
     let at = (2..tokens.len()).filter(behind_mqtt).filter(|&at| tokens[at].kind == STRING).collect();
     let topics = Topics { tokens, at, lent };
     let said = refusal(answer).map(|(number, place)| (number, place.strip_suffix(" 0").unwrap_or(place)));
@@ -103,7 +101,7 @@ fn taken_characters(topic: &str, sorts: &mut Vec<String>) {
 /// What the same call says with other lent topics.
 fn with_lent(case: &Case, lines: Vec<&[u8]>) -> Option<String> {
     let answer = second::answer(&case.with_topics(lines.join(&b'\n')));
-    refusal(&answer).map(|(number, _)| number.to_string())
+    full_refusal(&answer).map(|(number, _)| number.to_string())
 }
 
 /// Whether a 66 is none without the lent lines that are so.
@@ -139,7 +137,7 @@ impl<'a> Topics<'a> {
     }
 
     fn is_behind(&self, at: usize) -> bool {
-        self.tokens.get(at + 1).is_some_and(|token| token.kind == WORD && token.text == "is")
+        self.tokens.get(at + 1).is_some_and(|token| token.is_word("is"))
     }
 
     fn no_topic(&self, place: &str) -> Option<&'static str> {
@@ -199,7 +197,7 @@ impl<'a> Topics<'a> {
 
     fn one_too_many(&self, case: &Case, place: &str) -> Vec<String> {
         let Some(at) = self.token_at(place).map(|mqtt| mqtt + 1) else { return Vec::new() };
-        let whens = self.tokens[..at].iter().filter(|token| token.kind == WORD && token.text == "when").count();
+        let whens = self.tokens[..at].iter().filter(|token| token.is_word("when")).count();
         let earlier: Vec<&[u8]> = self.at.iter().filter(|&&before| before < at).map(|&before| self.bytes(before)).collect();
         let otherwise = with_lent(case, Vec::new());
         let stripped = lines(case.topics()).map(|line| line.strip_suffix(b"\r").unwrap_or(line)).collect();
@@ -261,8 +259,4 @@ impl<'a> Topics<'a> {
         ]));
         sorts
     }
-}
-
-fn shown(list: &[(bool, &'static str)]) -> Vec<String> {
-    list.iter().filter(|(is, _)| *is).map(|(_, sort)| sort.to_string()).collect()
 }

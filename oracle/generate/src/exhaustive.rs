@@ -106,6 +106,20 @@ const ARGUMENT_PARTS: &[&[u8]] = pieces!["dev", "inst", "group", "type", "=", ",
 const ARGUMENTS: &[&[u8]] = pieces!["dev=64", "dev=\"b\"", "dev=\"\"", "inst=1", "inst=32", "group=2", "group=32", "type=button",
     "type=foo", "adapter=1", "adapter=2", ",", "3", "\"a\"", "foo=1"];
 
+const DEVICE_PARTS: &[&[u8]] = pieces!["dev", "=", "1", "64", "\"a\"", "\"b\"", ",", "adapter", ")"];
+const OVERRIDE_PARTS: &[&[u8]] = pieces!["starts", "clears", "for", "lamp", "group", "broadcast", "(", "1", "\"b\"", ")"];
+const COMPARED_PARTS: &[&[u8]] = pieces!["==", "!=", "\"x\"", "\"12345678901234567\"", "5", "-", "+", ".", "event", "value", "input(1,2)",
+    "light", "var(\"w\")"];
+
+/// What a shop call takes and what not, in whole triggers and conditions.
+const PROFILE_PARTS: &[&[u8]] = pieces!["when lamp(\"b\") turns on", "when lamp(5) turns on", "when scene(5) recalled", "when input(inst=1, 5) is press",
+    "when input(\"b\", 5) is event(data=5)", "when input(group=5) is press", "when hcl override starts for broadcast",
+    "when input(5, dev=\"b\", inst=1) is press", "if lamp(\"b\").level > event.value", "if hcl is enabled for broadcast",
+    "if device(5) is online", "and var(\"v\") == event.device", "and group(\"b\") any_on", "and lamp(5) is on", "foo"];
+const PROFILE_CONDITIONS: &[&[u8]] = pieces!["lamp(\"b\")", "lamp(5)", "lamp(64)", "group(5)", "device(\"a\")", "device(5)", "input(\"b\", 1)", "input(5, 1)",
+    "hcl is enabled for", "broadcast", "is on", "any_on", "is online", "is occupied", ".light above 5", ".level >", "event.option", "lamp(5).level",
+    "var(\"v\") ==", "and"];
+
 /// Lent topics: five, seven and eight.
 const FIVE: &[u8] = b"1\n2\n3\n4\n5";
 const SEVEN: &[u8] = b"1\n2\n3\n4\n5\n6\n7\n";
@@ -133,23 +147,28 @@ const RUNS: &[Run] = &[
     text!("when input(", ") is press", 4, ARGUMENTS),
     text!(Habit::Rule, "when input(", ") is press", 6, ARGUMENT_PARTS),
     text!(Habit::Rule, "when input(", ") is press", 4, ARGUMENTS),
+    text!(Habit::Shop, "when input(", ") is press", 5, ARGUMENT_PARTS),
+    text!(Habit::Shop, "", "", 4, PROFILE_PARTS),
+    text!(Habit::Shop, "when http trigger if", "", 3, PROFILE_CONDITIONS),
     text!(Habit::Rule, "when input(", "", 5, pieces!["dev=1", "inst=2", "group=3", "type=4", "dev", "=", "1", ",", ")", "\"a\""]),
     text!(Habit::Rule, "when controller starts if input( dev=1 ,", ").light above 5", 4, ARGUMENTS),
     text!("when input( 1 , 2 )", "", 5, pieces!["is", "becomes", "press", "event", "(", "data", "=", "1024", "7", ")", "occupied",
         ".", "light", "crosses", "above"]),
     text!("when input(group=1)", "", 3, pieces!["is", "becomes", "press", "occupied", ".", "light", "position", "changes", "if",
         "foo", "5"]),
-    text!("when input device(", "power cycled", 5, pieces!["dev", "=", "1", "64", "\"a\"", "\"b\"", ",", "adapter", ")"]),
+    text!("when input device(", "power cycled", 5, DEVICE_PARTS),
+    text!(Habit::Shop, "when input device(", "power cycled", 5, DEVICE_PARTS),
     text!("when at", "", 5, pieces!["7:05", "sunset", "sunrise", "+", "-", "5s", "2147483.648s", "2147483.649s", "on", "mon", "if"]),
     text!("when every", "", 4, pieces!["5s", "999ms", "1000ms", "5", "1.5", "7:05", "if", "when", "sun is up", "at"]),
     text!("when scene(", "recalled", 5, pieces!["0", "15", "16", ",", "adapter", "=", "1", "2", ")"]),
-    text!("when hcl override", "", 5, pieces!["starts", "clears", "for", "lamp", "group", "broadcast", "(", "1", "\"b\"", ")"]),
+    text!("when hcl override", "", 5, OVERRIDE_PARTS),
+    text!(Habit::Shop, "when hcl override starts for", "", 4, OVERRIDE_PARTS),
     text!("when controller starts if", "", 5, pieces!["sun", "is", "up", "and", "controller", "active", "hcl", "enabled", "for",
         "broadcast", "lamp(1)", "group(1)", "any_on", "day"]),
     text!("when controller starts if lamp(1)", "", 5, pieces![".", "level", "foo", "is", "on", "==", "<", "5", "-", "+", "lamp(2)",
         "sun", "rise", "and"]),
-    text!("when controller starts if var(\"v\")", "", 5, pieces!["==", "!=", "\"x\"", "\"12345678901234567\"", "5", "-", "+", ".",
-        "event", "value", "input(1,2)", "light", "var(\"w\")"]),
+    text!("when controller starts if var(\"v\")", "", 5, COMPARED_PARTS),
+    text!(Habit::Shop, "when controller starts if var(\"v\") ==", "", 4, COMPARED_PARTS),
     text!("when controller starts if time in", "", 5, pieces!["7:05", "sunset", "sunrise", "..", ".", "+", "-", "5s", "1", "and"]),
     text!("when controller starts if input(1,2)", "", 5, pieces!["is", "occupied", ".", "light", "above", "below", "5", "-", "time",
         "now", "and"]),

@@ -6,6 +6,7 @@
 //! long, a part left out or too many.
 
 use crate::durations;
+use crate::profile;
 use crate::rng::Rng;
 use crate::sheet::{Kind, Row, Sheet, KINDS};
 use crate::spell::Token;
@@ -19,6 +20,8 @@ pub struct Walk<'a> {
     pub sheet: &'a Sheet,
     /// At one choice in how many this walk slips; 0 for never.
     pub slips: usize,
+    /// At one choice in how many a text that is to keep to the shop profile leaves it; 0 for never.
+    pub strays: usize,
     pub out: Vec<Token>,
     /// Where the text is to end early, counted in tokens.
     pub end: Option<usize>,
@@ -98,6 +101,7 @@ const CONDITIONS: &[fn(&mut Walk)] = &[
     |w| { w.say("var"); w.name_in_parentheses(); w.compare(); w.var_text() },
 ];
 
+/// The readings; `event` is the last, and the shop profile has all others.
 const READINGS: &[fn(&mut Walk)] = &[
     |w| { w.say("lamp"); w.reference(Kind::Lamp); w.say("."); w.choose(&["level", "cct", "is_on", "last_level"]) },
     |w| { w.say("group"); w.reference(Kind::Group); w.say("."); w.choose(&["any_on", "all_off", "member_count"]) },
@@ -109,13 +113,15 @@ const READINGS: &[fn(&mut Walk)] = &[
     },
     |w| { w.say("time ."); w.choose(&["now", "hour", "minute", "weekday"]) },
     |w| { w.say("sun ."); w.choose(&["rise", "set", "is_up"]) },
-    |w| { w.say("event ."); w.choose(&["value", "device", "instance", "option"]) },
     |w| { w.say("var"); w.name_in_parentheses() },
+    |w| { w.say("event ."); w.choose(&["value", "device", "instance", "option"]) },
 ];
+pub const PROFILE_READINGS: &[fn(&mut Walk)] = READINGS.split_last().expect("there are readings").1;
 
 impl<'a> Walk<'a> {
     pub fn new(rng: &'a mut Rng, sheet: &'a Sheet, slips: usize) -> Walk<'a> {
-        Walk { rng, sheet, slips, out: Vec::with_capacity(48), end: None }
+        let strays = if sheet.shop { profile::strays(rng) } else { 0 };
+        Walk { rng, sheet, slips, strays, out: Vec::with_capacity(48), end: None }
     }
 
     /// A whole text.
@@ -246,6 +252,10 @@ impl<'a> Walk<'a> {
 
     /// A name or an id of a kind; the adapter that would suit it.
     pub(crate) fn name_or_id(&mut self, kind: Kind) -> Option<u8> {
+        if let Some(row) = self.keeps_profile().then(|| self.single_row(kind)).flatten() {
+            self.out.push(quoted(row.name));
+            return Some(row.adapter);
+        }
         let named = self.sheet.rows.iter().any(|row| row.kind == kind && self.sheet.is_own(row.adapter));
         if self.rng.below(8) < if named { 5 } else { 1 } {
             let (name, adapter) = self.sheet_name(kind);
@@ -288,7 +298,7 @@ impl<'a> Walk<'a> {
     }
 
     /// R of the grammar.
-    fn reference(&mut self, kind: Kind) {
+    pub(crate) fn reference(&mut self, kind: Kind) {
         self.say("(");
         if !self.name_on_both_sides(kind) {
             let adapter = self.name_or_id(kind);
@@ -297,8 +307,9 @@ impl<'a> Walk<'a> {
         self.say(")");
     }
 
-    fn target(&mut self) {
-        match self.rng.below(5) {
+    pub(crate) fn target(&mut self) {
+        let sorts = if self.keeps_profile() { 4 } else { 5 };
+        match self.rng.below(sorts) {
             0 | 1 => { self.say("lamp"); self.reference(Kind::Lamp) }
             2 | 3 => { self.say("group"); self.reference(Kind::Group) }
             _ => self.choose(&["broadcast"]),
@@ -396,8 +407,14 @@ impl<'a> Walk<'a> {
             self.choose_sign(4);
             return self.literal();
         }
-        let reading = self.rng.pick(READINGS);
+        let readings = if self.keeps_profile() { PROFILE_READINGS } else { READINGS };
+        let reading = self.rng.pick(readings);
         reading(self);
+        self.perhaps_added();
+    }
+
+    /// Now and then a sign and a number behind a reading.
+    pub(crate) fn perhaps_added(&mut self) {
         if self.rng.once_in(3) {
             self.choose_sign(1);
             self.literal();

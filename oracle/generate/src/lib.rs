@@ -9,6 +9,7 @@ mod grammar;
 mod isolation;
 mod large;
 mod parties;
+mod profile;
 mod repeats;
 mod requests;
 mod rng;
@@ -34,15 +35,17 @@ use spell::{spell, Token};
 /// The longest text that it takes, in bytes.
 const LONGEST_TEXT: usize = 16_384;
 
-/// The case `index` of the sequence that `seed` gives: a default call, or an archive call, on one line or the other. The party and
-/// the primary of a `call` line are chosen for its sheet, and it often lends topics; the sheet of a `case` line seldom has party rows.
+/// The case `index` of the sequence that `seed` gives: a default call, a shop call, or an archive call, on one line or the other. The
+/// party and the primary of a `call` line are chosen for its sheet, and it often lends topics; the sheet of a `case` line seldom has
+/// party rows.
 pub fn case(seed: u64, index: u64) -> Case {
     let mut rng = Rng::new(seed, index);
-    let habit = rng.pick(&[None, Some(Habit::Archive), Some(Habit::Rule), Some(Habit::Rule)]);
+    let habit = rng.pick(&[None, Some(Habit::Archive), Some(Habit::Rule), Some(Habit::Shop)]);
     let mut sheet = sheet::good(&mut rng, if habit.is_some() { 2 } else { 6 });
     let settings = habit.map(|habit| parties::settings(&mut rng, habit, &sheet));
     if let Some(settings) = &settings {
         sheet.party = settings.party;
+        sheet.shop = settings.habit == Habit::Shop;
         sheet.lend(&settings.topics);
     }
     let mut text = text(&mut rng, &sheet);
@@ -105,6 +108,9 @@ fn spoil_sheet(rng: &mut Rng, sheet: &mut Sheet) {
 
 /// A text of one of the sorts, mostly a short one.
 fn text(rng: &mut Rng, sheet: &Sheet) -> Vec<u8> {
+    if sheet.shop && rng.once_in(4) {
+        return about_profile(rng, sheet);
+    }
     match rng.below(200) {
         0..=1 => large::text(rng, sheet),
         2..=11 => soup(rng),
@@ -151,7 +157,20 @@ fn about_topics(rng: &mut Rng, sheet: &Sheet) -> Vec<u8> {
     let (one, slips) = (rng.once_in(3), rng.pick(&[NEVER, NEVER, NEVER, SELDOM]));
     let mut walk = Walk::new(rng, sheet, slips);
     if one { walk.topic_text() } else { walk.topics_text() }
-    let mut tokens = walk.tokens();
+    let tokens = walk.tokens();
+    seldom_damaged(rng, tokens)
+}
+
+/// A text about the shop profile.
+fn about_profile(rng: &mut Rng, sheet: &Sheet) -> Vec<u8> {
+    let slips = rng.pick(&[NEVER, NEVER, NEVER, SELDOM]);
+    let mut walk = Walk::new(rng, sheet, slips);
+    walk.profile_text();
+    let tokens = walk.tokens();
+    seldom_damaged(rng, tokens)
+}
+
+fn seldom_damaged(rng: &mut Rng, mut tokens: Vec<Token>) -> Vec<u8> {
     if rng.once_in(12) {
         damage::tokens(rng, &mut tokens);
     }

@@ -51,6 +51,8 @@ pub struct Sheet {
     pub adapters: Vec<u8>,
     /// The party of the call that texts are for.
     pub party: u8,
+    /// Whether that call has the shop profile.
+    pub shop: bool,
     /// The topics that the call lends, as far as they can stand in a string.
     pub topics: Vec<Vec<u8>>,
 }

@@ -231,6 +231,17 @@ fn calls_of_several_parties_and_primaries_come_up() {
 }
 
 #[test]
+fn texts_of_shop_calls_keep_to_the_profile_and_leave_it() {
+    let shop: Vec<Case> = (0..20_000).map(|index| case(SEED, index)).filter(|case| case.habit() == Habit::Shop).collect();
+    let count = |parts: &[&[u8]]| shop.iter().filter(|case| parts.iter().all(|part| contains(&case.text, part))).count();
+    assert!(shop.len() > 4_500, "{}", shop.len());
+    let (broadcast, event) = (count(&[b"broadcast"]), count(&[b"event."]));
+    assert!(broadcast > 100 && broadcast < shop.len() / 4 && event > 50 && event < shop.len() / 4, "{broadcast} {event}");
+    let (both, named, numbered) = (count(&[b"broadcast", b"event."]), count(&[b"lamp(\""]), count(&[b"lamp(1"]));
+    assert!(both > 5 && named > 500 && numbered > 50, "{both} {named} {numbered}");
+}
+
+#[test]
 fn most_sheets_are_good_and_most_texts_short() {
     let cases: Vec<Case> = (0..10_000).map(|index| case(SEED, index)).collect();
     let good = cases.iter().filter(|case| well_formed(&case.sheet)).count();

@@ -171,6 +171,12 @@ impl Walk<'_> {
         }
     }
 
+    /// `mqtt` and a topic that a text may have or may not.
+    pub(crate) fn any_mqtt(&mut self) {
+        let topic = any(self.rng);
+        self.mqtt_with(&topic);
+    }
+
     fn mqtt_with(&mut self, topic: &[u8]) {
         self.say("mqtt");
         self.out.push(quoted(topic));

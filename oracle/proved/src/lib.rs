@@ -1,11 +1,12 @@
 //! The proved lexer and the whole calls as Rust functions, the comparison of the first with the supplied Rust and the second
-//! reader, the test that a party's call sees nothing of another's rows, and what the speed is measured on.
+//! reader, the tests of the others, and what the speed is measured on.
 
 pub mod agree;
 pub mod coverage;
 pub mod inputs;
 pub mod short;
 pub mod texts;
+pub mod whole;
 
 #[cfg(test)]
 mod isolation;
@@ -27,37 +28,55 @@ extern "C" {
         answer_length: usize,
     ) -> u32;
 
-    fn tergyosul_read(
-        text: *const u8,
-        text_length: usize,
-        sheet: *const u8,
-        sheet_length: usize,
-        topics: *const u8,
-        topics_length: usize,
-        party: u8,
-        primary: u8,
-        words: *mut u32,
-        words_length: usize,
-        answer: *mut u32,
-        answer_length: usize,
-    ) -> u32;
-
-    fn tergyosul_read_archive(
-        text: *const u8,
-        text_length: usize,
-        sheet: *const u8,
-        sheet_length: usize,
-        topics: *const u8,
-        topics_length: usize,
-        party: u8,
-        primary: u8,
-        words: *mut u32,
-        words_length: usize,
-        answer: *mut u32,
-        answer_length: usize,
-    ) -> u32;
-
     fn tergyosul_sheet_primary(sheet: *const u8, sheet_length: usize) -> u32;
+}
+
+/// The whole calls, which all take the same.
+macro_rules! whole_calls {
+    ($($name:ident)*) => {
+        extern "C" {
+            $(fn $name(
+                text: *const u8,
+                text_length: usize,
+                sheet: *const u8,
+                sheet_length: usize,
+                topics: *const u8,
+                topics_length: usize,
+                party: u8,
+                primary: u8,
+                words: *mut u32,
+                words_length: usize,
+                answer: *mut u32,
+                answer_length: usize,
+            ) -> u32;)*
+        }
+    };
+}
+
+whole_calls! { tergyosul_read tergyosul_read_archive tergyosul_read_shop }
+
+/// Puts one of them to what a caller lends.
+macro_rules! whole_call {
+    ($name:ident, $text:expr, $given:expr, $words:expr, $answer:expr) => {{
+        let Given { sheet, topics, party, primary } = $given;
+        // SAFETY: each pointer and length is a slice that is borrowed for the call, and the two mutable ones overlap nothing.
+        unsafe {
+            $name(
+                $text.as_ptr(),
+                $text.len(),
+                sheet.as_ptr(),
+                sheet.len(),
+                topics.as_ptr(),
+                topics.len(),
+                party,
+                primary,
+                $words.as_mut_ptr(),
+                $words.len(),
+                $answer.as_mut_ptr(),
+                $answer.len(),
+            )
+        }
+    }};
 }
 
 /// What a call answers beside the records in the words.
@@ -113,46 +132,17 @@ impl<'a> Given<'a> {
 /// The default call: reads a rule text with a name sheet, and refuses a repeated argument of `input(`. The layout of the answer is
 /// include/tergyosul.h's; with one of fewer than 108 words nothing is read or written.
 pub fn read(text: &[u8], given: Given, words: &mut [u32], answer: &mut [u32]) -> u32 {
-    let Given { sheet, topics, party, primary } = given;
-    // SAFETY: each pointer and length is a slice that is borrowed for the call, and the two mutable ones overlap nothing.
-    unsafe {
-        tergyosul_read(
-            text.as_ptr(),
-            text.len(),
-            sheet.as_ptr(),
-            sheet.len(),
-            topics.as_ptr(),
-            topics.len(),
-            party,
-            primary,
-            words.as_mut_ptr(),
-            words.len(),
-            answer.as_mut_ptr(),
-            answer.len(),
-        )
-    }
+    whole_call!(tergyosul_read, text, given, words, answer)
 }
 
 /// The archive loader's call, whose habit the supplied Rust has too: a repeated argument replaces the earlier one.
 pub fn read_archive(text: &[u8], given: Given, words: &mut [u32], answer: &mut [u32]) -> u32 {
-    let Given { sheet, topics, party, primary } = given;
-    // SAFETY: each pointer and length is a slice that is borrowed for the call, and the two mutable ones overlap nothing.
-    unsafe {
-        tergyosul_read_archive(
-            text.as_ptr(),
-            text.len(),
-            sheet.as_ptr(),
-            sheet.len(),
-            topics.as_ptr(),
-            topics.len(),
-            party,
-            primary,
-            words.as_mut_ptr(),
-            words.len(),
-            answer.as_mut_ptr(),
-            answer.len(),
-        )
-    }
+    whole_call!(tergyosul_read_archive, text, given, words, answer)
+}
+
+/// The shop call: the default call under the shop profile (document 02 §9).
+pub fn read_shop(text: &[u8], given: Given, words: &mut [u32], answer: &mut [u32]) -> u32 {
+    whole_call!(tergyosul_read_shop, text, given, words, answer)
 }
 
 /// The adapter that a sheet's first line names, 0 where it names none.

@@ -1,8 +1,9 @@
 //! Document 02 §12, of the proved calls: what becomes of a trigger `mqtt`, and how lent topics count.
 
 use crate::agree::UNTOUCHED;
-use crate::isolation::{left, Left};
-use cases::{Case, Habit, LEAST_WORDS};
+use crate::whole::{left, Left};
+use crate::{read, read_archive};
+use cases::{Case, LEAST_WORDS};
 
 /// The words of an entry, and the kind of a trigger `mqtt` (include/tergyosul.h).
 const ROW: usize = 12;
@@ -11,8 +12,8 @@ const MQTT: u32 = 21;
 /// What the call leaves behind that lends these topics: the same by both habits.
 fn lending(lent: &[u8], text: &str) -> Left {
     let case = Case::new(1, LEAST_WORDS, text, b"primary,0\n").with_topics(lent);
-    let found = left(&case);
-    assert_eq!(left(&case.with_habit(Habit::Rule)), found, "{text}");
+    let found = left(read_archive, &case);
+    assert_eq!(left(read, &case), found, "{text}");
     found
 }
 

@@ -7,6 +7,7 @@ mod durations;
 mod lexer;
 mod model;
 mod print;
+mod profile;
 mod reader;
 mod references;
 mod refusal;
@@ -80,7 +81,7 @@ fn lexing_with(records: Vec<[u32; cases::RECORD]>, number: u32, place: Place) ->
     Lexing { records, number, line: place.line, column: place.column }
 }
 
-/// One call: the questions 1 to 4 and 53, the lexing of the whole text, then the parsing.
+/// One call: the questions 1 to 4 and 53, the lexing of the whole text, then the parsing, then the profile if the call has it.
 fn read(case: &Case) -> Outcome<'_> {
     let mut buffer = Buffer::new(case.words);
     let (view, text) = match admit(case, &buffer) {
@@ -90,8 +91,17 @@ fn read(case: &Case) -> Outcome<'_> {
     let lexed = lexer::lex(text);
     buffer.write(&lexed.tokens);
     let given = Given { sheet: view, topics: Topics::lent(case.topics()), repeats: repeats(case) };
-    let result = lexed.end.and_then(|end| Reader::new(text, lexed.tokens, end, given).sections());
+    let result = lexed.end.and_then(|end| lists(case.habit(), Reader::new(text, lexed.tokens, end, given)));
     Outcome { buffer, result, formerly_17: lexed.formerly_17 }
+}
+
+/// Both lists. The profile of the shop call is judged "on an accepted reading", document 02 §9.
+fn lists<'a>(habit: Habit, mut reader: Reader<'a>) -> Read<Lists<'a>> {
+    let lists = reader.sections()?;
+    match reader.left_out.earliest() {
+        Some(refusal) if habit == Habit::Shop => Err(refusal),
+        _ => Ok(lists),
+    }
 }
 
 /// "By default a repeat is now turned away; the archive loader keeps a call with the old habit", document 02 §11.

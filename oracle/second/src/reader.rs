@@ -2,6 +2,7 @@
 
 use crate::lexer::{Kind, Token};
 use crate::model::Choice;
+use crate::profile::LeftOut;
 use crate::refusal::{Place, Refusal};
 use crate::sheet::View;
 use crate::topics::{self, Topics};
@@ -26,18 +27,20 @@ pub struct Given<'a> {
     pub repeats: Repeats,
 }
 
-/// The parser: a list of tokens with the text they are from, where it stands in it, and what the call gives.
+/// The parser: a list of tokens with the text they are from, where it stands in it, what the call gives, and what it met so far
+/// that the shop profile leaves out.
 pub struct Reader<'a> {
     text: &'a str,
     tokens: Vec<Token>,
     next: usize,
     end: Place,
     pub given: Given<'a>,
+    pub left_out: LeftOut,
 }
 
 impl<'a> Reader<'a> {
     pub fn new(text: &'a str, tokens: Vec<Token>, end: Place, given: Given<'a>) -> Reader<'a> {
-        Reader { text, tokens, next: 0, end, given }
+        Reader { text, tokens, next: 0, end, given, left_out: LeftOut::default() }
     }
 
     pub fn peek(&self) -> Option<Token> {

@@ -109,12 +109,13 @@ impl<'a> Reader<'a> {
         adapter.unwrap_or(self.given.sheet.primary)
     }
 
-    /// The range of an id, or the rows of a name.
-    fn judge(&self, kind: Kind, token: Token, adapter: Option<u32>) -> Read<Ref> {
+    /// The range of an id, or the rows of a name. Only a reference in use comes here.
+    fn judge(&mut self, kind: Kind, token: Token, adapter: Option<u32>) -> Read<Ref> {
         if token.kind == TokenKind::String {
             return self.look_up(kind, token, adapter);
         }
         let number = in_range(token, kind.highest())?;
+        self.left_out.numbered(token.place);
         Ok(Ref { adapter: self.or_primary(adapter), number })
     }
 
@@ -143,7 +144,9 @@ impl<'a> Reader<'a> {
         if self.take_word("group") {
             return self.reference(Kind::Group).map(Target::Group);
         }
+        let place = self.place();
         self.expect_word("broadcast")?;
+        self.left_out.broadcast(place);
         Ok(Target::Broadcast(self.given.sheet.primary))
     }
 
@@ -225,7 +228,7 @@ impl<'a> Reader<'a> {
     }
 
     /// 27, 28 and 29, then the dev's range or rows. "Type counts only with group."
-    fn selected(&self, arguments: &Arguments, close: Place) -> Read<Selector> {
+    fn selected(&mut self, arguments: &Arguments, close: Place) -> Read<Selector> {
         if let Some(group) = arguments.group {
             if arguments.dev.is_some() || arguments.inst.is_some() {
                 return Err(Refusal::new(27, group.place));

@@ -1,7 +1,7 @@
 //! Places in a text, and refusals: number, line, column, detail.
 
-/// A line and a column, both counted from 1 in characters; 0:0 where document 01 gives no other place.
-#[derive(Debug, Clone, Copy, PartialEq, Eq)]
+/// A line and a column, both counted from 1 in characters; 0:0 where document 01 gives no other place. An earlier place is less.
+#[derive(Debug, Clone, Copy, PartialEq, Eq, PartialOrd, Ord)]
 pub struct Place {
     pub line: u32,
     pub column: u32,

@@ -80,6 +80,7 @@ impl<'a> Reader<'a> {
 
     /// A reading; a word that begins none is 20, since a VALUE begins here.
     fn reading(&mut self) -> Read<Reading<'a>> {
+        let place = self.place();
         if self.take_word("lamp") {
             let lamp = self.reference(Kind::Lamp)?;
             Ok(Reading::Lamp(lamp, self.property(&["level", "cct", "is_on", "last_level"])?))
@@ -94,6 +95,7 @@ impl<'a> Reader<'a> {
         } else if self.take_word("sun") {
             Ok(Reading::Plain("sun", self.property(&["rise", "set", "is_up"])?))
         } else if self.take_word("event") {
+            self.left_out.event_reading(place);
             Ok(Reading::Plain("event", self.property(&["value", "device", "instance", "option"])?))
         } else {
             self.expect_word("var")?;

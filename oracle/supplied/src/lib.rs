@@ -54,7 +54,7 @@ pub(crate) enum Verdict {
 /// The text that the replay format orders for the case: its token records, then the refusal or the two lists.
 ///
 /// Of the settings of a call the party, the primary and the lent topics count; what the supplied Rust does with repeated
-/// arguments is the archive habit. A case on which the supplied Rust would overflow, or whose text it would parse with lent
+/// arguments is the archive habit, and it has no profile. A case on which the supplied Rust would overflow, or whose text it would parse with lent
 /// topics that are not UTF-8, has the one line `outside the domain` instead.
 pub fn answer(case: &cases::Case) -> String {
     let (records, verdict) = judged(case);

@@ -1,5 +1,7 @@
 -- Readings and VALUE. `range` gives the bytes of a name's token.
 use Prim.Native.Nat.{ℕ}
+use mathlib.Core.Path.{_≡_}
+use mathlib.Core.Bool.{true}
 use lib.IntN.{ℤ, pos}
 use Rattle.text.specs.Literal.{ascii}
 use Rattle.tokens.specs.Kind.{INTEGER, POINT}
@@ -67,7 +69,7 @@ pub data Event-property (t : ℕ → Tok) : ℕ → EventReading → ℕ → Typ
   event-instance : {i j : ℕ} → Word t (ascii "instance") i j → Event-property t i EventReading.Instance j
   event-option : {i j : ℕ} → Word t (ascii "option") i j → Event-property t i EventReading.Option j
 
--- "Readings, after a point: …; and var Q."
+-- "Readings, after a point: …; and var Q." One of `event` only where that may stand.
 pub data Reading-of (t : ℕ → Tok) (view : View) (range : ℕ → Name) : ℕ → Reading → ℕ → Type 0 where
   of-lamp : {i j k a l m : ℕ} {r : Ref} {p : LampReading} → Word t (ascii "lamp") i j → Lamp t view j r k → Token t POINT k a l →
       Lamp-property t l p m → Reading-of t view range i (Reading.Lamp r p) m
@@ -79,7 +81,7 @@ pub data Reading-of (t : ℕ → Tok) (view : View) (range : ℕ → Name) : ℕ
       Reading-of t view range i (Reading.Time p) l
   of-sun : {i j a k l : ℕ} {p : SunReading} → Word t (ascii "sun") i j → Token t POINT j a k → Sun-property t k p l →
       Reading-of t view range i (Reading.Sun p) l
-  of-event : {i j a k l : ℕ} {p : EventReading} → Word t (ascii "event") i j → Token t POINT j a k → Event-property t k p l →
+  of-event : {i j a k l : ℕ} {p : EventReading} → Word t (ascii "event") i j → view .allows i ≡ true → Token t POINT j a k → Event-property t k p l →
       Reading-of t view range i (Reading.Event p) l
   of-var : {i j n k : ℕ} → Word t (ascii "var") i j → Q t j n k → Reading-of t view range i (Reading.Var (range n)) k
 

@@ -13,5 +13,8 @@ is-repeat-spec =
     (λ c. search needs)
     (λ c. search needs)
     (λ c κs. search needs)
+    (λ c. search needs)
+    (λ c κs. search needs)
+    (λ c. search arguments depth 12)
     (λ c. search arguments depth 12)
     (λ c. search arguments depth 12))

@@ -1,12 +1,11 @@
 use borrow.Author.Needs.{needs}
-use Rattle.sheet.specs.View.{viewOf}
 use Rattle.references.specs.Refs.{lightTarget}
 use Rattle.references.proofs.RefChain.{refs}
 use Rattle.references.proofs.refs.light_target.Statement.{statement}
 use Rattle.references.proofs.refs.light_target.Tie as tie
 
 pub light-target-spec : {M : Type 1} → statement M
-unfolding lightTarget viewOf
+unfolding lightTarget
 light-target-spec =
     tie.close
     (tie.spec
@@ -25,6 +24,7 @@ light-target-spec =
     (λ c. search needs)
     (λ c κs. search needs)
     (λ c. search needs)
+    (λ c κs. search needs)
     (λ c. search refs depth 12)
     (λ c. search needs)
     (λ c κs. search needs)

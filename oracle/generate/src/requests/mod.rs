@@ -1,5 +1,7 @@
 //! Fixed cases for the requests of document 02, to be stored behind the sample of document 01.
 
+mod profile;
+
 use cases::{Case, Habit, Settings, FORMER_LEAST_WORDS, LEAST_WORDS, MOST_TOKENS, MOST_WORDS};
 
 /// The cases of every request that has landed, in the order of their landing.
@@ -9,6 +11,7 @@ pub fn requests() -> Vec<Case> {
     cases.extend(repeats());
     cases.extend(parties());
     cases.extend(topics());
+    cases.extend(profile::cases());
     cases
 }
 
