@@ -180,7 +180,7 @@ enum tergyosul_reading {
  * row is party 0's. The call sees the party's adapters and the rows on them, and nothing of another's: a name that only
  * another has is not found, and another's adapter is not listed. What names no adapter is on primary, the call's own
  * primary adapter, which stands in for the sheet's. It need not be listed; if it is not the party's the call is refused
- * with 53, at 0:0.
+ * with 53, at 0:0. The sheet's lines end with LF or CR LF, and a name runs to the end of its line, commas included.
  *
  * topics are those of earlier rules, one a line, LF between; where there are none the length is 0. They may be of any
  * length and content: lines are taken as they come, with a CR if they have one, and empty ones count for nothing. A topic

@@ -30,7 +30,7 @@ use Rattle.tokens.specs.Scan.{isPlain, passed, triviaMode, trivia, quoted, with
 use Rattle.tokens.specs.Token.{singleKind, pairKind, single, punct, string, timeBy, time, decimal, amountTo, durationBy, duration, fractionAt, fraction, point, numberAt as tokens-numberAt, number, word, tokenAt}
 use Rattle.tokens.specs.Phrase.{wordsIn, position, choiceBy, choiceAt, takeWords, phraseAt, headOf, eitherAt, pointChoice, phraseChoice, pointPhrase}
 use Rattle.sheet.specs.Kind.{kindOf, mostOf}
-use Rattle.sheet.specs.Line.{field, rest, hasComma, digitsOn, numeral, isMark, plain, isName, checkedRow, readRow, primaryOf, adapterOf, partyBy, partyOf, lineBy, lineOf, nameOf}
+use Rattle.sheet.specs.Line.{withoutReturn, field, rest, hasComma, digitsOn, numeral, isMark, plain, isName, checkedRow, readRow, primaryOf, adapterOf, partyBy, partyOf, lineBy, bareLine, bareName, lineOf, nameOf}
 use Rattle.sheet.specs.Sheet.{isOwnerOf, hasOwner, mayFollow, followingCheck, isPrimary, linesCheck, sheetCheck, entries, isListing, lists}
 use Rattle.sheet.specs.Party.{ownerBy, ownerOf, owns, entriesOn}
 use Rattle.sheet.specs.View.{mayRepeat, anyForm, seen, ownPrimary}
@@ -116,5 +116,5 @@ Holds [] = Unit {0}
 Holds (r ∷ rs) = (readOf (r .call) (ascii (r .text)) S [] (zeros leastWords) .answer ≡ r .answer) × Holds rs
 
 pairs : Holds table
-unfolding indexOf indexAfter table _⇒_ _⇒ₐ_ line S zeros one on counted lineFeeds sinceLineFeed lineAfter columnAfter after stepOf walked judge checkOf isAscii sequenceLength isTail isSecond two three four sized front decodeAt charsFrom chars rowEnd whiteSpace among isWhite partOf sameBytes isDigit isAlpha isWordStart isWordPart split firstAt bytesOf tokens isWord isKind takeKind takeWord takeIn toTaken accepted unitOf boundedMs wholeMs amount recordOf lexFrom lexText answerFrom writtenFrom lexAnswer lexWords recordWords tokenLine tokenColumn capacity wordsOf written wordAt kindAt numberAt startAt lengthAt lineAt columnAt bytesAt isPlain passed triviaMode trivia quoted withDigit digits singleKind pairKind single punct string timeBy time decimal amountTo durationBy duration fractionAt fraction point tokens-numberAt number word tokenAt wordsIn position choiceBy choiceAt takeWords phraseAt headOf eitherAt pointChoice phraseChoice pointPhrase kindOf mostOf field rest hasComma digitsOn numeral isMark plain isName checkedRow readRow primaryOf adapterOf partyBy partyOf lineBy lineOf nameOf isOwnerOf hasOwner mayFollow followingCheck isPrimary linesCheck sheetCheck entries isListing lists mayRepeat anyForm ownerBy ownerOf owns entriesOn seen ownPrimary isCandidate candidates isIn inScope elsewhere noneOf chosen pickNamed checkedName closedName quotedName nameOrId adapterNumber adapterAssign adapterClause scopeOrPrimary foundAt referred closeR openR reference lampRef groupRef deviceRef devName inputDeviceRef lampTarget groupTarget broadcastTarget lightTarget toIndex toName toScope toRef toTarget slotOf isNamed keySlot namedSlot unnamedSlot slotAt typeWord inputTypeValue deviceItem instanceItem groupItem typeItem adapterItem itemAt isDev isNumber isGroup isOn isSet isRepeat put noArgs argAt countWith argsFrom deviceInstance withInst withDev withGroup selected closeArgs inputSelector oneInstance inputRef toItem toArgs toSelector toInput slot lastShortAddress lastGroup lastScene lastLevel lastInstance lastInstanceGroup lastInstanceType lastEventInformation padded triggersOf conditionsOf acceptedWith refusedWith rangeOf namedPhrase targetFor propertyWord signed mostOffset offsetBound offsetAt withOffset solarEvent solarAt timeBound lampProperty lampReading groupProperty groupReading inputProperty inputReading timeProperty timeReading sunProperty sunReading eventProperty eventReading varReading readingBy readingAt literalAt deltaAt withDelta readValue valueAt powerOf crossingOf occupancyOf aggregateOf onlineOf overrideOf timerTrigger ruleTrigger controllerChange controllerTrigger httpTrigger everyTrigger atBound atTrigger sceneClosed sceneTrigger deviceTrigger groupTrigger hclTrigger levelCross lampChange lampTrigger inputDeviceChange inputDeviceTrigger rawData rawEvent eventOf eventAt inputEvent inputBecomes lightCross positionChange propertyTrigger pointTrigger inputChange inputTrigger triggerBy triggerAt comparisonBy comparisonAt controllerCondition timerCondition ruleCondition lastFiredCondition deviceCondition sunOf sunCondition timeTo timeCondition groupCondition hclOf hclCondition lampPropertyOf lampJudged lampCompared lampPoint lampState lampCondition lightThan inputState inputCondition textOperand operandAt varCompared varCondition conditionBy conditionAt fits topicName topicBy topicOf repeated triggerNamed whenSection ifSection atEnd ruleAt parsed onAccepted ruleOf lexedFrom byPrimary byText bySheet readOf
+unfolding indexOf indexAfter table _⇒_ _⇒ₐ_ line S zeros one on counted lineFeeds sinceLineFeed lineAfter columnAfter after stepOf walked judge checkOf isAscii sequenceLength isTail isSecond two three four sized front decodeAt charsFrom chars rowEnd whiteSpace among isWhite partOf sameBytes isDigit isAlpha isWordStart isWordPart split firstAt bytesOf tokens isWord isKind takeKind takeWord takeIn toTaken accepted unitOf boundedMs wholeMs amount recordOf lexFrom lexText answerFrom writtenFrom lexAnswer lexWords recordWords tokenLine tokenColumn capacity wordsOf written wordAt kindAt numberAt startAt lengthAt lineAt columnAt bytesAt isPlain passed triviaMode trivia quoted withDigit digits singleKind pairKind single punct string timeBy time decimal amountTo durationBy duration fractionAt fraction point tokens-numberAt number word tokenAt wordsIn position choiceBy choiceAt takeWords phraseAt headOf eitherAt pointChoice phraseChoice pointPhrase kindOf mostOf withoutReturn field rest hasComma digitsOn numeral isMark plain isName checkedRow readRow primaryOf adapterOf partyBy partyOf lineBy bareLine bareName lineOf nameOf isOwnerOf hasOwner mayFollow followingCheck isPrimary linesCheck sheetCheck entries isListing lists mayRepeat anyForm ownerBy ownerOf owns entriesOn seen ownPrimary isCandidate candidates isIn inScope elsewhere noneOf chosen pickNamed checkedName closedName quotedName nameOrId adapterNumber adapterAssign adapterClause scopeOrPrimary foundAt referred closeR openR reference lampRef groupRef deviceRef devName inputDeviceRef lampTarget groupTarget broadcastTarget lightTarget toIndex toName toScope toRef toTarget slotOf isNamed keySlot namedSlot unnamedSlot slotAt typeWord inputTypeValue deviceItem instanceItem groupItem typeItem adapterItem itemAt isDev isNumber isGroup isOn isSet isRepeat put noArgs argAt countWith argsFrom deviceInstance withInst withDev withGroup selected closeArgs inputSelector oneInstance inputRef toItem toArgs toSelector toInput slot lastShortAddress lastGroup lastScene lastLevel lastInstance lastInstanceGroup lastInstanceType lastEventInformation padded triggersOf conditionsOf acceptedWith refusedWith rangeOf namedPhrase targetFor propertyWord signed mostOffset offsetBound offsetAt withOffset solarEvent solarAt timeBound lampProperty lampReading groupProperty groupReading inputProperty inputReading timeProperty timeReading sunProperty sunReading eventProperty eventReading varReading readingBy readingAt literalAt deltaAt withDelta readValue valueAt powerOf crossingOf occupancyOf aggregateOf onlineOf overrideOf timerTrigger ruleTrigger controllerChange controllerTrigger httpTrigger everyTrigger atBound atTrigger sceneClosed sceneTrigger deviceTrigger groupTrigger hclTrigger levelCross lampChange lampTrigger inputDeviceChange inputDeviceTrigger rawData rawEvent eventOf eventAt inputEvent inputBecomes lightCross positionChange propertyTrigger pointTrigger inputChange inputTrigger triggerBy triggerAt comparisonBy comparisonAt controllerCondition timerCondition ruleCondition lastFiredCondition deviceCondition sunOf sunCondition timeTo timeCondition groupCondition hclOf hclCondition lampPropertyOf lampJudged lampCompared lampPoint lampState lampCondition lightThan inputState inputCondition textOperand operandAt varCompared varCondition conditionBy conditionAt fits topicName topicBy topicOf repeated triggerNamed whenSection ifSection atEnd ruleAt parsed onAccepted ruleOf lexedFrom byPrimary byText bySheet readOf
 pairs = (refl, (refl, (refl, (refl, (refl, (refl, (refl, (refl, (refl, (refl, (refl, tt)))))))))))

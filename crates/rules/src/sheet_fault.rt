@@ -1,8 +1,9 @@
-// Refusal 3: what is wrong with a line of the name sheet, and the way out.
+// Refusal 3: what is wrong with a line of the name sheet, and the way out. A line is looked at and shown without the CR that belongs to its end.
 use crate::out;
 use crate::say;
 use crate::source;
 use crate::split;
+use sheet::line;
 use sheet::line::Line;
 
 fn begins(l: &[u8], word: &[u8]) -> bool {
@@ -13,15 +14,8 @@ fn is_row(l: &[u8]) -> bool {
     begins(l, b"lamp,") || begins(l, b"group,") || begins(l, b"device,") || begins(l, b"input,")
 }
 
-pub fn ends_with_return(l: &[u8]) -> bool {
-    if l.len() == 0 {
-        return false;
-    }
-    l[l.len() - 1] == 13
-}
-
 fn is_primary(l: &[u8]) -> bool {
-    let said = sheet::line::line_of(l);
+    let said = line::line_of(l);
     match said {
         Line::Primary(_) => true,
         _ => false,
@@ -30,25 +24,21 @@ fn is_primary(l: &[u8]) -> bool {
 
 // What is wrong with a row.
 fn of_row(l: &[u8]) -> u32 {
-    let commas = split::count(l, b',');
-    if commas < 3 {
+    if split::count(l, b',') < 3 {
         return 7;
-    }
-    if commas == 3 {
-        return 9;
     }
     8
 }
 
 // What is wrong with a row that says whose an adapter is: one that is well formed is the second for its adapter.
 fn of_party(l: &[u8]) -> u32 {
-    let said = sheet::line::line_of(l);
+    let said = line::line_of(l);
     match said {
         Line::Party {
             adapter: _,
             party: _,
-        } => 11,
-        _ => 10,
+        } => 10,
+        _ => 9,
     }
 }
 
@@ -77,7 +67,7 @@ fn wrong(l: &[u8], line: u32) -> u32 {
     if 513 < line {
         return 1;
     }
-    if ends_with_return(l) {
+    if 0 < split::count(l, b'\r') {
         return 2;
     }
     if line == 1 {
@@ -89,16 +79,15 @@ fn wrong(l: &[u8], line: u32) -> u32 {
 fn remedy(l: &[u8], line: u32) {
     let table = b"_ a row begins with adapter, party, lamp, group, device or input and a comma
 1 a sheet has at most 512 rows behind its first line
-2 the line ends with CR LF: save the sheet with LF alone
+2 a line may have one CR, at its end: remove any other
 3 the first line is `primary,` and the number of the primary adapter, 0 to 255
 4 remove the empty line
 5 `primary` stands only in the first line
 6 an adapter is a number from 0 to 255 without a leading zero or blanks
 7 a row has four fields: kind, adapter, number and name
-8 a name has no comma in it
-9 the adapter is 0 to 255, the number 0 to 63 (of a group 0 to 15), without leading zeros or blanks; the name has 1 to 48 bytes and no quote
-10 behind `party,` stand an adapter and a party, each a number from 0 to 255 without leading zeros or blanks, and a comma between them
-11 an adapter has one party row, and a row above says already whose this adapter is: remove one of the two";
+8 the adapter is 0 to 255, the number 0 to 63 (of a group 0 to 15), without leading zeros or blanks; the name has 1 to 48 bytes and no quote
+9 behind `party,` stand an adapter and a party, each a number from 0 to 255 without leading zeros or blanks, and a comma between them
+10 an adapter has one party row, and a row above says already whose this adapter is: remove one of the two";
     out::entry(table, wrong(l, line));
 }
 
@@ -123,7 +112,7 @@ pub fn show(sheet: &[u8], name: &[u8], line: u32) {
         too_long(name);
         return;
     }
-    let l = split::line_at(sheet, split::line_start(sheet, line));
+    let l = line::without_return(split::line_at(sheet, split::line_start(sheet, line)));
     head(name, line);
     source::empty_line(line);
     source::numbered(l, line, 0);

@@ -3,7 +3,6 @@ use crate::fault::Fault;
 use crate::near;
 use crate::out;
 use crate::say;
-use crate::sheet_fault;
 use crate::split;
 use crate::stands;
 use topics::topic;
@@ -67,6 +66,13 @@ fn near_topic<'a, 'b>(lent: &'a [u8], w: &'b [u8]) -> &'a [u8] {
     &lent[..0]
 }
 
+fn ends_with_return(l: &[u8]) -> bool {
+    if l.len() == 0 {
+        return false;
+    }
+    l[l.len() - 1] == b'\r'
+}
+
 // 66: a lent topic is nearly this one, or there is none.
 fn nearly(l: &[u8]) {
     if l.len() == 0 {
@@ -75,7 +81,7 @@ fn nearly(l: &[u8]) {
         );
         return;
     }
-    if sheet_fault::ends_with_return(l) {
+    if ends_with_return(l) {
         out::bytes(b"the lines of the file behind --topics end with CR LF: save it with LF alone");
         return;
     }

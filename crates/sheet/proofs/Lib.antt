@@ -2,6 +2,9 @@ pub mod AdapterLaws
 mod PlainLaws
 pub mod LineLaws
 pub mod ListedLaws
+pub mod ReturnLaws
+pub mod FormerLaws
+pub mod Examples
 pub mod ResolveLaws
 pub mod SkipLaws
 pub mod ViewLaws

@@ -1,4 +1,4 @@
--- Laws on the fields of a line and on its numbers, and rules by which a search follows the code that reads a line.
+-- Laws on a line's CR, on its fields and on its numbers, and rules by which a search follows the code that reads a line.
 -- What a callee answered stands beside its contract, as the code has it.
 use mathlib.Core.Path.{_≡_, _∙_, refl}
 use mathlib.Core.Bool.{Bool, true, false, not}
@@ -9,14 +9,16 @@ use native.Mathlib.Numerals.{add-one}
 use native.Mathlib.Nat.{zero-add}
 use lib.ListN.{length, take, drop, getD, length-drop, drop-of-length-le}
 use lib.Seq.{take-all, drop-cons}
-use lib.Dec.{ltb, leb}
+use lib.Dec.{ltb, leb, eqb}
 use borrow.Author.Tests.{lt-ltb, le-ltb, le-leb, lt-leb, eq-eqb, ne-eqb, not-true, not-false}
 use Rattle.bytes.specs.Bytes.{indexOf}
 use Rattle.text.specs.Choice.{pick}
-use Rattle.text.proofs.Tests.{steps, eq-told-yes, eq-told-no}
+use Rattle.text.proofs.Tests.{picked, steps, eq-yes, eq-no, eq-told-yes, eq-told-no}
 use Rattle.text.specs.Ascii.{isDigit}
 use Rattle.text.specs.Find.{firstAt}
-use Rattle.sheet.specs.Line.{field, rest, hasComma, digitsOn, numeral, checkedRow, readRow, primaryOf, adapterOf, partyBy, lineBy, nameOf}
+use Rattle.model.specs.Limits.{lastGroup, lastShortAddress, lastAdapter}
+use Rattle.sheet.specs.Kind.{groupKind, mostOf}
+use Rattle.sheet.specs.Line.{withoutReturn, field, rest, hasComma, digitsOn, numeral, checkedRow, readRow, primaryOf, adapterOf, partyBy, lineBy, bareLine, bareName, lineOf, nameOf}
 use Rattle.sheet.specs.declared.line.Line.{Line}
 use Rattle.sheet.specs.declared.line.Line.the-variants.{Bad}
 use Rattle.text.proofs.FindLaws.{first-is}
@@ -52,9 +54,33 @@ module _ (l : List ℕ) {i : ℕ} (comma : i ≡ indexOf 0x2C l) where
   comma-no a b h e = rw (← has-by, le-ltb i (length l) h) e
 
 -- behind the third comma
-pub name-by : (l : List ℕ) {a b x : List ℕ} → a ≡ rest l → b ≡ rest a → x ≡ rest b → x ≡ nameOf l
-unfolding nameOf
+pub name-by : (l : List ℕ) {a b x : List ℕ} → a ≡ rest l → b ≡ rest a → x ≡ rest b → x ≡ bareName l
+unfolding bareName
 name-by l d f e = rw (← d, ← f) e
+
+-- a line that has no byte, one that ends with CR, and any other, without its CR
+pub return-none : (l : List ℕ) → length l ≡ 0 → l ≡ withoutReturn l
+unfolding withoutReturn
+return-none [] e = refl
+return-none (c ∷ l) e = absurd (omega arith)
+
+module _ (l : List ℕ) where
+  pub return-off : getD l (length l - 1) 0 ≡ 0x0D → take (length l - 1) l ≡ withoutReturn l
+  unfolding withoutReturn
+  return-off h = eq-yes _ _ _ _ h refl
+
+  pub return-not : (getD l (length l - 1) 0 ≡ 0x0D → ⊥) → l ≡ withoutReturn l
+  unfolding withoutReturn
+  return-not h = eq-no _ _ _ _ h refl
+
+  -- what is read of it then
+  pub line-bare : {m : List ℕ} {x : Line} → m ≡ withoutReturn l → x ≡ bareLine m → x ≡ lineOf l
+  unfolding lineOf
+  line-bare d e = rw (← d) e
+
+  pub name-bare : {m x : List ℕ} → m ≡ withoutReturn l → x ≡ bareName m → x ≡ nameOf l
+  unfolding nameOf
+  name-bare d e = rw (← d) e
 
 -- no byte, a zero alone or ahead of others, or digits
 pub numeral-none : (l : List ℕ) → length l ≡ 0 → 1000 ≡ numeral l
@@ -116,6 +142,11 @@ le-told-yes m n a b d h e = rw (← d, le-leb m _ h) e
 pub le-told-no : {A : Type 0} {r : ℕ} (m n : ℕ) (a b : A) {x : A} → r ≡ n → r < m → x ≡ b → x ≡ pick (leb m n) a b
 le-told-no m n a b d h e = rw (← d, lt-leb m _ h) e
 
+-- no kind has numbers above those of adapters
+pub most-small : (kind : ℕ) → mostOf kind ≤ lastAdapter
+unfolding mostOf lastGroup lastShortAddress
+most-small kind = picked (λ (n : ℕ). n ≤ lastAdapter) (eqb kind groupKind) (λ _. omega arith) (λ _. omega arith)
+
 -- what the callees read, given to another
 pub by-primary : (n : ℕ) {a : ℕ} {x : Line} → a ≡ n → x ≡ primaryOf a → x ≡ primaryOf n
 by-primary n d e = rw (← d) e
@@ -154,6 +185,11 @@ pub ruleset reading = (
   rest-slice,
   has-by,
   name-by,
+  return-none,
+  return-off,
+  return-not,
+  line-bare,
+  name-bare,
   numeral-none,
   numeral-zero,
   numeral-more,

@@ -18,6 +18,7 @@ use Rattle.sheet.specs.declared.Call.{Call}
 use Rattle.sheet.specs.declared.line.Line.{Line}
 use Rattle.sheet.specs.declared.line.Line.the-variants.{Primary, Adapter, Party, Row, Bad}
 use Rattle.sheet.proofs.RangeLaws.{Line-in-range, line-in}
+use Rattle.sheet.proofs.ReturnLaws.{use-pick}
 use Rattle.sheet.proofs.SkipLaws.{by-order}
 use Rattle.sheet.proofs.ViewLaws.{same-view}
 
@@ -31,11 +32,6 @@ abbrev listing : ℕ → List Own-row → Bool
 listing a [] = false
 listing a (adapter-row b ∷ rows) = pick (eqb b a) true (listing a rows)
 listing a (named-row e ∷ rows) = listing a rows
-
--- a choice that is put to a use
-use-pick : {A B : Type 0} (f : A → B) (t : Bool) (a b : A) → f (pick t a b) ≡ pick t (f a) (f b)
-use-pick f true a b = refl
-use-pick f false a b = refl
 
 -- of a line that lists an adapter: x and y say whether the adapter in question and the line's are the party's, same whether they are one
 listed-on : (x y same rest : Bool) {found : Bool} → (same ≡ true → x ≡ y) → pick x rest false ≡ found →

@@ -1,4 +1,4 @@
--- Names without comma and quote, byte by byte and eight at a time.
+-- Names without quote and CR, byte by byte and eight at a time.
 use mathlib.Core.Path.{_≡_, _∙_, refl, sym}
 use mathlib.Core.Bool.{Bool, true, false, not, false≢true}
 use mathlib.Core.List.{List, [], _∷_}

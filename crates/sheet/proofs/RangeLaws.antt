@@ -11,7 +11,7 @@ use Rattle.text.specs.Literal.{ascii}
 use Rattle.text.proofs.Tests.{picked}
 use Rattle.model.specs.Limits.{lastAdapter, lastParty}
 use Rattle.sheet.specs.Kind.{noKind, kindOf, mostOf}
-use Rattle.sheet.specs.Line.{field, rest, hasComma, numeral, isName, checkedRow, readRow, primaryOf, adapterOf, partyBy, partyOf, lineBy, lineOf, nameOf}
+use Rattle.sheet.specs.Line.{withoutReturn, field, rest, hasComma, numeral, isName, checkedRow, readRow, primaryOf, adapterOf, partyBy, partyOf, lineBy, bareLine, lineOf, nameOf}
 use Rattle.sheet.specs.Sheet.{Entry, lines, entryBy, entries, primaryBy, primaryLine}
 use Rattle.sheet.specs.Party.{entriesOn}
 use Rattle.sheet.specs.View.{View, seen}
@@ -79,9 +79,13 @@ by-in w l =
     picked Line-in-range (sameBytes w (ascii "party")) (λ g. party-in l)
     (λ g. picked Line-in-range (eqb (kindOf w) noKind) (λ h. bad) (λ h. row-in (kindOf w) l))))
 
+bare-in : (l : List ℕ) → Line-in-range (bareLine l)
+unfolding bareLine
+bare-in l = picked Line-in-range (hasComma l) (λ e. by-in (field l) (rest l)) (λ e. bad)
+
 pub line-in : (l : List ℕ) → Line-in-range (lineOf l)
 unfolding lineOf
-line-in l = picked Line-in-range (hasComma l) (λ e. by-in (field l) (rest l)) (λ e. bad)
+line-in l = bare-in (withoutReturn l)
 
 -- every row is in range
 pub data Rows-in-range : List Entry → Type 0 where

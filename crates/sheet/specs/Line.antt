@@ -1,8 +1,9 @@
 -- What a line of the name sheet says (document 01, "The name sheet"): `primary,A`, `adapter,A` or `K,A,N,name`; and, by document 02, §6, `party,A,P`.
+-- Where a line ends and what a name is are document 02, §8.
 use Prim.Native.Nat.{ℕ, _+_, _-_, _*_}
 use mathlib.Core.List.{List, [], _∷_}
 use mathlib.Core.Bool.{Bool, true, false}
-use lib.ListN.{length, take, drop}
+use lib.ListN.{length, take, drop, getD}
 use lib.Dec.{ltb, leb, eqb}
 use Rattle.bytes.specs.Bytes.{indexOf}
 use Rattle.text.specs.Choice.{pick, within}
@@ -13,6 +14,10 @@ use Rattle.model.specs.Limits.{lastAdapter, lastParty, longestName}
 use Rattle.sheet.specs.Kind.{noKind, kindOf, mostOf}
 use Rattle.sheet.specs.declared.line.Line.{Line}
 use Rattle.sheet.specs.declared.line.Line.the-variants.{Primary, Adapter, Party, Row, Bad}
+
+-- "From now on one CR directly before LF or the end of the sheet belongs to the line end": a line without it
+unfoldable pub withoutReturn : List ℕ → List ℕ
+withoutReturn l = pick (eqb (getD l (length l - 1) 0) 0x0D) (take (length l - 1) l) l
 
 -- "Fields are parted by commas": a line's first field, what stands behind its comma, and whether there is one
 unfoldable pub field : List ℕ → List ℕ
@@ -33,9 +38,9 @@ unfoldable pub numeral : List ℕ → ℕ
 numeral [] = 1000
 numeral (c ∷ l) = pick (eqb c 0x30) (pick (eqb (length l) 0) 0 1000) (digitsOn 0 (c ∷ l))
 
--- "A name has 1 to 48 bytes without comma, quote or LF." A line has no LF.
+-- "A name has 1 to 48 bytes" (document 01); "a name has no quote, LF or other CR" (document 02, §8). A line has no LF.
 unfoldable pub isMark : ℕ → Bool
-isMark c = pick (eqb c 0x2C) true (eqb c 0x22)
+isMark c = pick (eqb c 0x22) true (eqb c 0x0D)
 
 unfoldable pub plain : List ℕ → Bool
 plain [] = true
@@ -77,9 +82,15 @@ lineBy w l =
     (pick (sameBytes w (ascii "party")) (partyOf l)
     (pick (eqb (kindOf w) noKind) Bad (readRow (kindOf w) l))))
 
-unfoldable pub lineOf : List ℕ → Line
-lineOf l = pick (hasComma l) (lineBy (field l) (rest l)) Bad
+-- a line without its CR: what it says, and the name of a row's line, which "runs to the line end, commas included" from behind the third comma
+unfoldable pub bareLine : List ℕ → Line
+bareLine l = pick (hasComma l) (lineBy (field l) (rest l)) Bad
 
--- the name of a row's line: what is behind its third comma
+unfoldable pub bareName : List ℕ → List ℕ
+bareName l = rest (rest (rest l))
+
+unfoldable pub lineOf : List ℕ → Line
+lineOf l = bareLine (withoutReturn l)
+
 unfoldable pub nameOf : List ℕ → List ℕ
-nameOf l = rest (rest (rest l))
+nameOf l = bareName (withoutReturn l)

@@ -11,7 +11,7 @@ use Rattle.sheet.specs.Line.{lineOf, nameOf}
 use Rattle.sheet.specs.declared.line.Line.{Line}
 use Rattle.sheet.specs.declared.line.Line.the-variants.{Primary, Adapter, Party, Row, Bad}
 
--- "lines end with LF, the last may lack it"
+-- "lines end with LF, the last may lack it". The CR of document 02, §8, is taken off where a line is read.
 abbrev pub lines : List ℕ → List (List ℕ)
 lines s = split 0x0A s
 

@@ -1,9 +1,9 @@
 -- The code's way to `pickNamed`, in one pass over the rows. Nothing here need be believed: `found-tally` shows that it comes to the same.
-use Prim.Native.Nat.{ℕ, _+_}
+use Prim.Native.Nat.{ℕ, _+_, _-_}
 use mathlib.Core.Path.{_≡_}
 use mathlib.Core.List.{List, [], _∷_}
 use mathlib.Core.Bool.{Bool, true, false}
-use lib.ListN.{drop}
+use lib.ListN.{length, drop}
 use lib.Dec.{eqb}
 use Rattle.text.specs.Choice.{pick}
 use Rattle.text.specs.Part.{sameBytes}
@@ -64,6 +64,10 @@ lineTally own kind name scope t l = lineTallyBy own kind name scope t (nameOf l)
 
 abbrev pub noTally : Tally
 noTally = record { known = false; first = 0; count = 0; adapter = 0; number = 0; spans = false }
+
+-- whether a line ends with a name, which is asked before the line is read
+unfoldable pub endsWith : List ℕ → List ℕ → Bool
+endsWith l name = sameBytes (drop (length l - length name) l) name
 
 -- no row between two offsets has the name: those from both on come to the same
 abbrev pub Passed : List ℕ → List ℕ → ℕ → ℕ → Type 0

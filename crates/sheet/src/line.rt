@@ -7,7 +7,7 @@ ghost use Prim.Native.Nat.{ℕ, _+_, _-_};
 ghost use lib.ListN.{length};
 ghost use Rattle.text.specs.Block.{block};
 ghost use Rattle.bytes.specs.Bytes.{indexOf};
-ghost use Rattle.sheet.specs.Line.{rest, numeral, isMark, plain, isName, digitsOn, checkedRow, readRow, primaryOf, adapterOf, partyBy, partyOf, lineBy, lineOf, nameOf};
+ghost use Rattle.sheet.specs.Line.{withoutReturn, rest, numeral, isMark, plain, isName, digitsOn, checkedRow, readRow, primaryOf, adapterOf, partyBy, partyOf, lineBy, bareLine, bareName, lineOf, nameOf};
 
 // What a line says: the primary adapter, a listed adapter, whose an adapter is, a row of a kind with its adapter and number, or nothing
 // that a sheet may say.
@@ -24,6 +24,20 @@ pub enum Line {
         number: u32,
     },
     Bad,
+}
+
+// A line without the CR that belongs to its end: one, if one is there.
+pub fn without_return(l: &[u8]) -> &[u8]
+    ensures { λ r. ⌜ now r ≡ withoutReturn (now (l .entry)) ⌝ }
+{
+    let len = l.len();
+    if len == 0 {
+        return l;
+    }
+    if l[len - 1] == b'\r' {
+        return &l[..len - 1];
+    }
+    l
 }
 
 // The index of the first comma; the length where there is none.
@@ -96,7 +110,7 @@ fn digit(c: u32) -> u32
     c - 0x30
 }
 
-// A name that a sheet may have: 1 to 48 bytes, without comma or quote.
+// A name that a sheet may have: 1 to 48 bytes, without quote or CR.
 fn is_name(l: &[u8]) -> bool
     ensures { λ r. ⌜ r ≡ isName (now (l .entry)) ⌝ }
 {
@@ -109,20 +123,20 @@ fn is_name(l: &[u8]) -> bool
     is_plain(l)
 }
 
-// A comma or a quote? Most bytes are above both, and so told by one test.
+// A quote or a CR? Most bytes are above both, and so told by one test.
 fn is_mark(c: u8) -> bool
     ensures { λ r. ⌜ r ≡ isMark c ⌝ }
 {
-    if b',' < c {
+    if b'"' < c {
         return false;
     }
-    if c == b',' {
+    if c == b'"' {
         return true;
     }
-    c == b'"'
+    c == b'\r'
 }
 
-// Are there eight bytes at an offset, with no comma and no quote among them? As in text::utf8, all are tested at once.
+// Are there eight bytes at an offset, with no quote and no CR among them? As in text::utf8, all are tested at once.
 fn eight_unmarked(l: &[u8], at: usize) -> bool
     ensures { λ r. ⌜ r ≡ block (λ (c : ℕ). not (isMark c)) (now (l .entry)) at ⌝ }
 {
@@ -133,17 +147,17 @@ fn eight_unmarked(l: &[u8], at: usize) -> bool
     if len - 8 < at {
         return false;
     }
-    !(((l[at] == b',') | (l[at] == b'"'))
-        | ((l[at + 1] == b',') | (l[at + 1] == b'"'))
-        | ((l[at + 2] == b',') | (l[at + 2] == b'"'))
-        | ((l[at + 3] == b',') | (l[at + 3] == b'"'))
-        | ((l[at + 4] == b',') | (l[at + 4] == b'"'))
-        | ((l[at + 5] == b',') | (l[at + 5] == b'"'))
-        | ((l[at + 6] == b',') | (l[at + 6] == b'"'))
-        | ((l[at + 7] == b',') | (l[at + 7] == b'"')))
+    !(((l[at] == b'"') | (l[at] == b'\r'))
+        | ((l[at + 1] == b'"') | (l[at + 1] == b'\r'))
+        | ((l[at + 2] == b'"') | (l[at + 2] == b'\r'))
+        | ((l[at + 3] == b'"') | (l[at + 3] == b'\r'))
+        | ((l[at + 4] == b'"') | (l[at + 4] == b'\r'))
+        | ((l[at + 5] == b'"') | (l[at + 5] == b'\r'))
+        | ((l[at + 6] == b'"') | (l[at + 6] == b'\r'))
+        | ((l[at + 7] == b'"') | (l[at + 7] == b'\r')))
 }
 
-// No comma and no quote, asked byte by byte?
+// No quote and no CR, asked byte by byte?
 fn each_plain(l: &[u8]) -> bool
     ensures { λ r. ⌜ r ≡ plain (now (l .entry)) ⌝ }
 {
@@ -157,7 +171,7 @@ fn each_plain(l: &[u8]) -> bool
     true
 }
 
-// No comma and no quote, asked of eight bytes at a time? The last eight begin at an offset, and some of them may have been tested before.
+// No quote and no CR, asked of eight bytes at a time? The last eight begin at an offset, and some of them may have been tested before.
 fn blocks_plain(l: &[u8], last: usize) -> bool
     requires { ⌜ length (now l) ≡ last + 8 ⌝ }
     ensures { λ r. ⌜ r ≡ plain (now (l .entry)) ⌝ }
@@ -173,7 +187,7 @@ fn blocks_plain(l: &[u8], last: usize) -> bool
     eight_unmarked(l, last)
 }
 
-// No comma and no quote?
+// No quote and no CR?
 fn is_plain(l: &[u8]) -> bool
     ensures { λ r. ⌜ r ≡ plain (now (l .entry)) ⌝ }
 {
@@ -287,9 +301,9 @@ fn party_of(l: &[u8]) -> Line
     party_by(decimal(&l[..at]), decimal(&l[at + 1..]))
 }
 
-// What a line says.
-pub fn line_of(l: &[u8]) -> Line
-    ensures { λ r. ⌜ r ≡ lineOf (now (l .entry)) ⌝ }
+// What a line says that is without its CR.
+fn bare_line(l: &[u8]) -> Line
+    ensures { λ r. ⌜ r ≡ bareLine (now (l .entry)) ⌝ }
 {
     let at = comma(l);
     if l.len() <= at {
@@ -298,9 +312,23 @@ pub fn line_of(l: &[u8]) -> Line
     line_by(&l[..at], &l[at + 1..])
 }
 
+// The name in a row's line that is without its CR.
+fn bare_name(l: &[u8]) -> &[u8]
+    ensures { λ r. ⌜ now r ≡ bareName (now (l .entry)) ⌝ }
+{
+    behind_comma(behind_comma(behind_comma(l)))
+}
+
+// What a line says.
+pub fn line_of(l: &[u8]) -> Line
+    ensures { λ r. ⌜ r ≡ lineOf (now (l .entry)) ⌝ }
+{
+    bare_line(without_return(l))
+}
+
 // The name in a row's line.
 pub fn name_of(l: &[u8]) -> &[u8]
     ensures { λ r. ⌜ now r ≡ nameOf (now (l .entry)) ⌝ }
 {
-    behind_comma(behind_comma(behind_comma(l)))
+    bare_name(without_return(l))
 }

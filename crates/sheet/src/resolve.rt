@@ -7,14 +7,14 @@ use crate::line::Line;
 use crate::rows;
 use text::place;
 ghost use mathlib.Core.Path.{_≡_};
-ghost use Prim.Native.Nat.{_≤_};
+ghost use Prim.Native.Nat.{_≤_, max};
 ghost use Rattle.text.specs.Choice.{pick};
 ghost use Rattle.sheet.specs.Sheet.{lines, entries};
 ghost use Rattle.sheet.specs.Party.{entriesOn};
 ghost use Rattle.sheet.specs.Adapters.{has};
 ghost use Rattle.sheet.specs.View.{viewOf};
 ghost use Rattle.sheet.specs.Resolve.{isIn, pickNamed};
-ghost use Rattle.sheet.specs.Tally.{scopedTally, otherTally, tallied, lineTally, tally, noTally, Passed, foundBy};
+ghost use Rattle.sheet.specs.Tally.{scopedTally, otherTally, tallied, lineTally, tally, noTally, endsWith, Passed, foundBy};
 
 // The adapter in a reference's parentheses: none, or one.
 pub enum Scope {
@@ -178,28 +178,52 @@ fn found_by(t: Tally) -> Found
     }
 }
 
-// From the start of a line on, the start of one before which no line has the name. A row that has it ends with a comma and the name, and
-// has at least `lamp,0,0` before these: as many bytes are passed unread, and only the line that is reached then is looked at.
+// Does a line end with a name?
+fn ends_with(l: &[u8], name: &[u8]) -> bool
+    ensures { λ r. ⌜ r ≡ endsWith (now (l .entry)) (now (name .entry)) ⌝ }
+{
+    let len = l.len();
+    if len < name.len() {
+        return false;
+    }
+    text::part::same(&l[len - name.len()..], name)
+}
+
+// The later of two offsets.
+fn later(a: usize, b: usize) -> usize
+    ensures { λ r. ⌜ r ≡ max a b ⌝ }
+{
+    if a < b {
+        return b;
+    }
+    a
+}
+
+// From the start of a line on, the start of one before which no line has the name. A row that has it ends with a comma, the name and
+// perhaps a CR, and has at least `lamp,0,0` before these: as many bytes are passed unread, and only the end of the line that is reached
+// then is looked at.
 fn skip_lines(s: &[u8], from: usize, name: &[u8]) -> usize
     ensures { λ r. ⌜ Passed (now (name .entry)) (now (s .entry)) from r ⌝ }
     ensures { λ r. ⌜ from ≤ r ⌝ }
 {
     let len = s.len();
     let least = name.len() + 9;
+    if len < least {
+        return later(from, len);
+    }
+    let last = len - least;
     let mut at = from;
-    while at < len {
-        if len - at < least {
-            return len;
-        }
+    while at <= last {
         let end = rows::line_end(s, at + least);
-        if s[end - least + 8] == b',' {
-            if text::part::same(&s[end - name.len()..end], name) {
+        let l = line::without_return(&s[..end]);
+        if l[l.len() - name.len() - 1] == b',' {
+            if ends_with(l, name) {
                 return at;
             }
         }
         at = end + 1;
     }
-    at
+    later(at, len)
 }
 
 // All lines of the sheet.

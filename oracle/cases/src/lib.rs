@@ -1,7 +1,9 @@
 //! A case of the replay format (docs/REPLAY.md): what one call of the reader is given.
 
+mod lines;
 mod settings;
 
+pub use lines::{fields, lines};
 pub use settings::{own_primary, Habit, Settings};
 
 use std::io::{self, BufRead, Write};

@@ -1,5 +1,7 @@
 //! What a `call` line gives beside the buffer, the text and the sheet (docs/REPLAY.md).
 
+use crate::lines;
+
 /// How a call takes repeated input arguments, and which forms it takes.
 #[derive(Debug, Clone, Copy, PartialEq, Eq, Hash, PartialOrd, Ord)]
 pub enum Habit {
@@ -46,8 +48,7 @@ impl Settings {
 
 /// The primary that the first line of a sheet gives, 0 if it gives none.
 pub fn own_primary(sheet: &[u8]) -> u8 {
-    let line = sheet.split(|&b| b == b'\n').next().unwrap_or_default();
-    let digits = line.strip_prefix(b"primary,").and_then(|digits| std::str::from_utf8(digits).ok());
+    let digits = lines(sheet)[0].strip_prefix(b"primary,").and_then(|digits| std::str::from_utf8(digits).ok());
     let plain = digits.filter(|digits| digits.bytes().all(|b| b.is_ascii_digit()) && (digits.len() == 1 || !digits.starts_with('0')));
     plain.and_then(|digits| digits.parse().ok()).unwrap_or(0)
 }
@@ -60,7 +61,8 @@ mod tests {
     fn a_sheets_own_primary() {
         for (sheet, primary) in [
             ("primary,0", 0), ("primary,7\nadapter,1\n", 7), ("primary,255\n", 255), ("primary,256\n", 0), ("primary,07\n", 0),
-            ("primary,\n", 0), ("primary,+7\n", 0), ("primary,7,\n", 0), ("adapter,7\n", 0), ("", 0),
+            ("primary,\n", 0), ("primary,+7\n", 0), ("primary,7,\n", 0), ("adapter,7\n", 0), ("", 0), ("primary,7\r\n", 7),
+            ("primary,7\r", 7), ("primary,7\r\nadapter,1", 7), ("primary,7\r\r\n", 0), ("primary,\r7", 0), ("\r\nprimary,7", 0),
         ] {
             assert_eq!(own_primary(sheet.as_bytes()), primary, "{sheet:?}");
         }

@@ -1,6 +1,6 @@
 //! What a case covered, read off its answer in the replay format, and off its text for what the answer does not say.
 
-use crate::{durations, parties, profile, records, repeats, topics};
+use crate::{durations, parties, profile, records, repeats, sheets, topics};
 use cases::Case;
 use std::io::{self, Write};
 
@@ -64,7 +64,7 @@ const GROUPS: &[(&str, &[&str])] = &[
     ("event", EVENTS), ("selector", SELECTORS), ("target", TARGETS), ("bound", BOUNDS), ("comparison", COMPARISONS),
     ("value", VALUES), ("choice", CHOICES), ("count", COUNTS), ("duration", durations::SORTS),
     ("buffer", records::SORTS), ("repeat", repeats::SORTS), ("party", parties::SORTS), ("topic", topics::SORTS),
-    ("profile", profile::SORTS), ("line", repeats::LINES),
+    ("profile", profile::SORTS), ("sheet", sheets::SORTS), ("line", repeats::LINES),
 ];
 
 /// The places of the groups in `GROUPS`.
@@ -87,7 +87,8 @@ const REPEAT: usize = 15;
 const PARTY: usize = 16;
 const TOPIC: usize = 17;
 const PROFILE: usize = 18;
-const LINE: usize = 19;
+const SHEET: usize = 19;
+const LINE: usize = 20;
 
 /// Room for the members.
 const WORDS: usize = 10;
@@ -123,6 +124,7 @@ impl Features {
         parties::sorts(case, answer).into_iter().for_each(|sort| set.mark(PARTY, Some(sort)));
         topics::sorts(case, answer).iter().for_each(|sort| set.mark(TOPIC, Some(sort)));
         profile::sorts(case, answer).iter().for_each(|sort| set.mark(PROFILE, Some(sort)));
+        sheets::sorts(case, answer).iter().for_each(|sort| set.mark(SHEET, Some(sort)));
         set.mark(LINE, Some(repeats::line(case)));
         for line in answer.lines() {
             let mut fields = line.split(' ');

@@ -11,6 +11,7 @@ pub mod readers;
 mod records;
 mod repeats;
 pub mod run;
+mod sheets;
 pub mod shrink;
 mod tokens;
 mod topics;

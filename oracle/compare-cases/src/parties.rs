@@ -3,7 +3,7 @@
 
 use crate::profile::full_refusal;
 use crate::tokens::{refusal, tokens};
-use cases::{own_primary, Case};
+use cases::{fields, lines, own_primary, Case};
 use std::collections::BTreeMap;
 
 /// `N for M` is an N where the same call says M if every adapter is the party's: another's rows would have changed it. `N
@@ -26,10 +26,6 @@ const ADAPTERS: usize = 256;
 /// What a sheet's party rows say, as far as they are good: the line and the party of each adapter.
 type Parties = BTreeMap<u8, (usize, u8)>;
 
-fn fields(line: &[u8]) -> Vec<&[u8]> {
-    line.split(|&b| b == b',').collect()
-}
-
 /// A number up to 255 without a leading zero.
 fn number(field: &[u8]) -> Option<u8> {
     let plain = field.len() == 1 || field.first() != Some(&b'0');
@@ -42,10 +38,6 @@ fn party_row(line: &[u8]) -> Option<(u8, u8)> {
         [b"party", adapter, party] => Some((number(adapter)?, number(party)?)),
         _ => None,
     }
-}
-
-fn lines(sheet: &[u8]) -> Vec<&[u8]> {
-    sheet.strip_suffix(b"\n").unwrap_or(sheet).split(|&b| b == b'\n').collect()
 }
 
 fn parties(lines: &[&[u8]]) -> Parties {

@@ -35,13 +35,13 @@ pub fn full_refusal(answer: &str) -> Option<(&str, &str)> {
 }
 
 /// What a name or a number stands for: the kind, and the index of the first word of the reference.
-struct Reference {
+pub struct Reference {
     kind: &'static str,
     first: usize,
 }
 
 /// What the name or number at a token refers to, if it is a lamp, group, device or input device.
-fn reference(tokens: &[Token], at: usize) -> Option<Reference> {
+pub fn reference(tokens: &[Token], at: usize) -> Option<Reference> {
     let behind_dev = at >= 2 && key(tokens, at - 2) == Some("dev");
     if let Some(open) = arguments(tokens, at) {
         let unnamed = matches!(tokens[at - 1].kind, OPEN | COMMA) && unnamed_before(tokens, open, at) == 0;

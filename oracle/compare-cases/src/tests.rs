@@ -58,7 +58,7 @@ fn a_group_id_of_16_is_found() {
 /// The count and the adapters of the rows with the first quoted name: 33 on one adapter, 34 on several.
 fn by_rows(case: &Case) -> u32 {
     let Some(name) = case.text.split(|&b| b == b'"').nth(1) else { return 0 };
-    let rows: Vec<Vec<&[u8]>> = case.sheet.split(|&b| b == b'\n').map(|row| row.split(|&b| b == b',').collect()).collect();
+    let rows: Vec<Vec<&[u8]>> = cases::lines(&case.sheet).into_iter().map(cases::fields).collect();
     let adapters: Vec<&[u8]> = rows.iter().filter(|row| row.len() == 4 && row[0] == b"lamp" && row[3] == name).map(|row| row[1]).collect();
     match adapters.len() {
         0 | 1 => 0,
@@ -74,7 +74,7 @@ fn a_33_in_the_place_of_34_is_found() {
     let found = difference(&right, &faulty, 1).expect("a difference");
     assert_eq!(by_rows(&found.case), 34);
     let rows = found.case.sheet.split(|&b| b == b'\n').filter(|row| !row.is_empty()).count();
-    assert!(rows == 2 && found.case.sheet.len() < 30 && found.case.text.len() < 6, "{:?}", found.case);
+    assert!(rows == 2 && found.case.sheet.len() < 60 && found.case.text.len() < 20, "{:?}", found.case);
 }
 
 #[test]
@@ -302,7 +302,7 @@ fn what_shows_of_another_party_is_found() {
         let Outcome::Different(found) = run(&plan, &readers).unwrap() else { panic!("no difference") };
         assert_eq!(found.other, Other::Beside);
         let small = smallest(&found, &readers);
-        assert!(readers.differs(Other::Beside, &small.case) && small.case.text.len() + small.case.sheet.len() < 200, "{:?}", small.case);
+        assert!(readers.differs(Other::Beside, &small.case) && small.case.text.len() + small.case.sheet.len() < 300, "{:?}", small.case);
     }
 }
 
@@ -521,6 +521,89 @@ fn the_shop_call_is_held_to_the_default_call() {
         let found = difference(faulty, &second::answer, 1).expect("a difference");
         assert_eq!((found.other, found.case.habit()), (Other::Default, Habit::Shop));
         assert!(found.case.text.len() < 100, "{}", found.case.text.escape_ascii());
+    }
+}
+
+#[test]
+fn line_ends_and_names_with_commas_are_counted() {
+    let asked = |text: &str, sheet: &str| shown("sheet ", &Case::new(1, LEAST_WORDS, text, sheet).with_party(0, 0));
+    let bad = |sheet: &str| asked("when http trigger", sheet);
+    for (sheet, wanted) in [
+        ("primary,0\r\nadapter,1\r\n", "CR LF throughout, CR LF at the end, CR on the first line, CR on an adapter row"),
+        ("primary,0\nparty,1,7\nlamp,0,1,a\r", "CR LF and LF, CR at the end, CR on a named row"),
+        ("primary,0\nparty,1,7\r\nlamp,0,1,,", "CR LF and LF, CR on a party row, a comma first, a comma last, a comma alone"),
+        ("primary,0\nlamp,0,1,a,b,c", "several commas"),
+        ("primary,0\nlamp,0,1,a\n", ""),
+        ("primary,0\r\r\n", "3 by two CR on the first line"),
+        ("primary,0\nadapter,1\r\r\nadapter,256\n", "3 by two CR on an adapter row"),
+        ("primary,0\nlamp,0,1,a\r\r", "3 by two CR on a named row, 3 by two CR at the end"),
+        ("primary,0\nlamp,0,64,a\r\r", ""),
+        ("primary,0\n\r", "3 by a CR behind the last LF"),
+        ("primary,0\n\r\n", "3 by a line of CR"),
+        ("primary,0\nlamp,0,1,a\rb\r\n", "3 by a CR in a name"),
+        ("primary,\r0\n", "3 by a CR in another field"),
+        ("primary,0\nlamp,0,1,\r\n", "3 by no name before CR"),
+        ("primary,0\nlamp,0,1,a,\"\n", "3 by a quote behind a comma"),
+        ("primary,0\nlamp,0,1,\"a,b\n", ""),
+        ("primary,0\nparty,1,2,\n", "3 by a comma on a party row"),
+        ("primary,0\nparty,1,2\nparty,1,3\r\n", "3 by a second party row with CR"),
+        ("primary,0\nlamp,0,64,a,b\n", ""),
+    ] {
+        assert_eq!(bad(sheet), wanted, "{sheet:?}");
+    }
+    let sheet = "primary,0\nadapter,0\nlamp,0,1,a, b\r\nlamp,0,2,c\nlamp,0,3,d, e\nlamp,0,4,d, e\n";
+    for (name, wanted) in [
+        ("a, b", "a name with a comma found, a name on a line with CR found"), ("c", ""), ("a", "31 for the part before a comma"),
+        (" b", "31 for the part behind a comma"), ("b", "31 for that part without its blank"), ("c\r", "31 for a name with CR behind it"),
+        ("c,", "31 for a name with a comma behind it"), ("d, e", "33 with a comma"),
+    ] {
+        let ends = "CR LF and LF, CR on a named row";
+        let all = [ends, wanted].join(if wanted.is_empty() { "" } else { ", " });
+        assert_eq!(asked(&format!("when lamp(\"{name}\") turns on"), sheet), all, "{name}");
+    }
+    let long = format!("primary,0\r\n{}", "adapter,7\r\n".repeat(513));
+    assert_eq!(bad(&long), "3 by the 513th row, with CR");
+    assert_eq!(shown("sheet ", &Case::new(1, LEAST_WORDS, "when http trigger", "primary,9\r")), "CR at the end, CR on the first line, the primary of a line with CR");
+    assert_eq!(shown("sheet ", &Case::new(1, LEAST_WORDS, "when @", "primary,0\nparty,0,7\r\n")), "53 by a party row with CR");
+}
+
+/// What a line ends with decides nothing: the same lines with LF alone get the same answer, from both Rust readers.
+#[test]
+fn line_ends_change_nothing() {
+    let mut changed = 0;
+    for case in (0..20_000).map(generated).filter(|case| case.sheet.contains(&b'\r')) {
+        let answer = second::answer(&case);
+        if !past_question_3(&answer) {
+            continue;
+        }
+        let plain = Case { sheet: cases::lines(&case.sheet).join(&b'\n'), ..case.clone() };
+        assert_eq!(second::answer(&plain), answer, "{}", case.id);
+        assert_eq!(supplied::answer(&plain), supplied::answer(&case), "{}", case.id);
+        changed += 1;
+    }
+    assert!(changed > 5_000, "{changed}");
+}
+
+/// Resolvers that cut names at a comma, from either side, or drop a comma at the end, are found.
+#[test]
+fn names_cut_at_commas_are_found() {
+    let renamed = |case: &Case, name: fn(&[u8]) -> &[u8]| {
+        let rows: Vec<Vec<u8>> = cases::lines(&case.sheet).into_iter().map(|line| match cases::fields(line)[..] {
+            [kind, adapter, number, long] if !name(long).is_empty() => [kind, adapter, number, name(long)].join(&b','),
+            _ => line.to_vec(),
+        }).collect();
+        supplied::answer(&Case { sheet: rows.join(&b'\n'), ..case.clone() })
+    };
+    let before = |case: &Case| renamed(case, |name| name.split(|&b| b == b',').next().unwrap_or(name));
+    let behind = |case: &Case| renamed(case, |name| name.rsplit(|&b| b == b',').next().unwrap_or(name));
+    let without_last = |case: &Case| renamed(case, |name| name.strip_suffix(b",").unwrap_or(name));
+    let faulty: [Reader; 3] = [&before, &behind, &without_last];
+    for faulty in faulty {
+        let readers = Readers { second: &second::answer, in_domain: &second::in_domain, supplied: faulty, replay: None };
+        let plan = Plan { make: &generated, count: 30_000, batch: 1_000, threads: 1, progress: false };
+        let Outcome::Different(found) = run(&plan, &readers).unwrap() else { panic!("no difference") };
+        let small = smallest(&found, &readers);
+        assert!(small.other == Other::Supplied && small.case.text.len() + small.case.sheet.len() < 150, "{:?}", small.case);
     }
 }
 

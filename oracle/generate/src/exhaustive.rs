@@ -87,6 +87,7 @@ const REFERENCES: &[&[u8]] = pieces!["\"a\"", "\"b\"", "\"c\"", "\"d\"", "64", "
 
 /// The text of the runs about sheets.
 const NAMED: &str = "when lamp(\"b\") turns on";
+const WITH_COMMA: &str = "when lamp(\"b, c\") turns on";
 const NAMED_ON_1: &str = "when lamp(\"b\", adapter=1) turns on";
 const PARTY_ROWS: &[&[u8]] = pieces!["party,1,7\n", "party,1,0\n", "party,0,7\n", "party,0,0\n", "adapter,0\n", "adapter,1\n",
     "lamp,0,1,b\n", "lamp,1,2,b\n"];
@@ -186,6 +187,10 @@ const RUNS: &[Run] = &[
     sheet!(None, NAMED, "primary,0\n", 6, pieces!["lamp", "adapter", ",", "0", "6", "a", "\"", "\n"]),
     sheet!(None, NAMED, "", 6, pieces!["primary", "adapter", ",", "0", "25", "\n", "lamp,0,1,b"]),
     sheet!(None, NAMED, "primary,0\n", 6, pieces!["party,", ",", "0", "1", "25", "\n"]),
+    sheet!(None, NAMED, "primary,0", 6, pieces!["\r", "\n", "lamp,0,1,b", "adapter,1", ",", "\""]),
+    sheet!(None, NAMED, "primary,0\nlamp,0,1", 6, pieces![",", "b", "\r", "\n", "\"", "adapter,1"]),
+    sheet!(None, WITH_COMMA, "primary,0\nlamp,0,1,b", 6, pieces![",", " c", "c", "\r", "\n", "lamp,0,2,b"]),
+    sheet!(Some((7, 1)), NAMED, "primary,0\r\nparty,1,7", 5, pieces!["\r", "\n", "party,1,7", "party,2,7", "lamp,1,2,b", ","]),
     sheet!(Some((7, 1)), NAMED, "primary,0\n", 5, PARTY_ROWS),
     sheet!(Some((0, 0)), NAMED, "primary,1\n", 5, PARTY_ROWS),
     sheet!(Some((7, 1)), NAMED_ON_1, "primary,0\n", 5, PARTY_ROWS),

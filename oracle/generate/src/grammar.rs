@@ -247,7 +247,8 @@ impl<'a> Walk<'a> {
             return (self.any_name(), None);
         }
         let row = self.rng.pick(&rows);
-        (quoted(row.name), Some(row.adapter))
+        let name = if self.rng.once_in(16) { self.beside_name(row.name) } else { quoted(row.name) };
+        (name, Some(row.adapter))
     }
 
     /// A name or an id of a kind; the adapter that would suit it.

@@ -1,17 +1,13 @@
 //! Document 02 §6: "For two accepted sheets that agree on which adapters are the party's, and on those adapters' rows in their
 //! order, the same text and primary given and all else alike, the party's call gives the same answer."
 
+use crate::line_ends::Ends;
 use crate::rng::Rng;
 use crate::sheet::{KINDS, MOST_BYTES, MOST_ROWS};
-use cases::Case;
+use cases::{fields, lines, Case};
 
 /// With so many bytes of rows that are kept, there is room for a party row for each adapter and for some others.
 const ROOMY: usize = 10_000;
-
-/// The lines of a sheet behind the first, without their LF.
-fn rows(sheet: &[u8]) -> Vec<&[u8]> {
-    sheet.strip_suffix(b"\n").unwrap_or(sheet).split(|&b| b == b'\n').skip(1).collect()
-}
 
 fn number(field: &[u8]) -> Option<u8> {
     std::str::from_utf8(field).ok()?.parse().ok()
@@ -19,7 +15,7 @@ fn number(field: &[u8]) -> Option<u8> {
 
 /// The fields behind the first of a row as numbers, as far as they are.
 fn numbers(row: &[u8]) -> (Option<u8>, Option<u8>) {
-    let mut fields = row.split(|&b| b == b',').skip(1).map(number);
+    let mut fields = fields(row).into_iter().skip(1).map(number);
     (fields.next().flatten(), fields.next().flatten())
 }
 
@@ -39,12 +35,13 @@ fn parties(rows: &[&[u8]]) -> [u8; 256] {
 }
 
 /// The same call on another sheet, which has the party's rows in their order and is different elsewhere: in the first line, in
-/// where the party rows stand, in whose the adapters of others are, and in the rows on these. The case's sheet is well formed,
-/// and so is the other.
+/// where the party rows stand, in whose the adapters of others are, in the rows on these, and in the line ends. The case's sheet is
+/// well formed, and so is the other.
 pub fn beside(case: &Case) -> Case {
     let mut rng = Rng::new(case.id, 0);
-    let old = rows(&case.sheet);
-    let (parties, party) = (parties(&old), case.party());
+    let lines = lines(&case.sheet);
+    let old = &lines[1..];
+    let (parties, party) = (parties(old), case.party());
     let own = |adapter: u8| parties[usize::from(adapter)] == party;
     let of_party = |row: &&[u8]| !is_party_row(row) && numbers(row).0.is_some_and(own);
     let kept: Vec<Vec<u8>> = old.iter().copied().filter(of_party).map(<[u8]>::to_vec).collect();
@@ -91,7 +88,7 @@ impl Beside<'_> {
     /// Rows on adapters of others, with names of the party's rows among them.
     fn fill(&mut self, own: &dyn Fn(u8) -> bool) {
         let others: Vec<u8> = (0..=255).filter(|&adapter| !own(adapter)).collect();
-        let names: Vec<Vec<u8>> = self.rows.iter().filter_map(|row| row.split(|&b| b == b',').nth(3)).map(<[u8]>::to_vec).collect();
+        let names: Vec<Vec<u8>> = self.rows.iter().filter_map(|row| fields(row).get(3).map(|name| name.to_vec())).collect();
         if others.is_empty() || self.tight {
             return;
         }
@@ -116,15 +113,13 @@ impl Beside<'_> {
         row
     }
 
-    fn bytes(self) -> Vec<u8> {
+    fn bytes(mut self) -> Vec<u8> {
         let primary = self.rng.below(if self.tight { 10 } else { 256 });
-        let mut bytes = format!("primary,{primary}").into_bytes();
-        for row in &self.rows {
-            bytes.push(b'\n');
-            bytes.extend_from_slice(row);
-        }
-        if self.rng.once_in(2) && bytes.len() < MOST_BYTES {
-            bytes.push(b'\n');
+        self.rows.insert(0, format!("primary,{primary}").into_bytes());
+        let ends = if self.tight { Ends::Lf } else { Ends::any(self.rng) };
+        let mut bytes = ends.join(self.rng, &self.rows);
+        if bytes.len() > MOST_BYTES {
+            bytes.pop();
         }
         bytes
     }

@@ -151,7 +151,7 @@ pub fn landmarks() -> Vec<Case> {
         (LEAST_WORDS, "when lamp(\"z\") turns on".to_string(), adapters(511, "lamp,7,9,z\n")),
         (LEAST_WORDS, "when lamp(\"z\", adapter=255) turns on".to_string(), adapters(511, "lamp,7,9,z")),
         (LEAST_WORDS, good.to_string(), adapters(512, "lamp,7,9,z\n")),
-        (LEAST_WORDS, good.to_string(), crate::sheet::of_length(16_385)),
+        (LEAST_WORDS, good.to_string(), crate::sheet::of_length(16_385, "\n")),
         (LEAST_WORDS - 1, good.to_string(), small()),
         (0, good.to_string(), Vec::new()),
     ];

@@ -8,6 +8,7 @@ mod exhaustive;
 mod grammar;
 mod isolation;
 mod large;
+mod line_ends;
 mod parties;
 mod profile;
 mod repeats;
@@ -91,8 +92,8 @@ fn words(rng: &mut Rng) -> usize {
     }
 }
 
-/// Leaves most sheets as they are; the others are broken in one of the listed ways, or get a byte or a line changed, or are
-/// as long as a sheet may be.
+/// Leaves most sheets as they are; the others are broken in one of the listed ways, or get a byte, a line or a line end changed, or
+/// are as long as a sheet may be.
 fn spoil_sheet(rng: &mut Rng, sheet: &mut Sheet) {
     match rng.below(400) {
         0..=15 => {
@@ -100,8 +101,9 @@ fn spoil_sheet(rng: &mut Rng, sheet: &mut Sheet) {
             sheet.bytes = sheet::broken(rng, which);
         }
         16..=21 => damage::bytes(rng, &mut sheet.bytes),
-        22 => sheet.bytes = sheet::longest(),
+        22 => sheet.bytes = sheet::longest(rng),
         23..=26 => damage::lines(rng, &mut sheet.bytes),
+        27..=30 => line_ends::damage(rng, &mut sheet.bytes),
         _ => {}
     }
 }

@@ -1,9 +1,9 @@
 //! Name sheets: good ones, with what a text can take from them, and broken ones of every kind.
 
+use crate::line_ends::{self, Ends};
 use crate::parties::{self, Owned};
 use crate::rng::Rng;
 use crate::vocabulary::{NAMES, RAW_NAMES};
-use std::io::Write;
 
 #[derive(Debug, Clone, Copy, PartialEq, Eq)]
 pub enum Kind {
@@ -69,29 +69,26 @@ enum Line {
     Named(Row, usize),
 }
 
-impl Sheet {
-    fn begin(&mut self, primary: u8) {
-        put(&mut self.bytes, format_args!("primary,{primary}\n"));
-        self.primary = primary;
+impl Line {
+    /// The line without its end.
+    fn bytes(self) -> Vec<u8> {
+        match self {
+            Line::Adapter(adapter) => format!("adapter,{adapter}").into_bytes(),
+            Line::Party((adapter, party)) => format!("party,{adapter},{party}").into_bytes(),
+            Line::Named(row, number) => [format!("{},{},{number},", row.kind.word(), row.adapter).as_bytes(), row.name].concat(),
+        }
     }
+}
 
+impl Sheet {
     fn add(&mut self, line: Line) {
         match line {
-            Line::Adapter(adapter) => {
-                put(&mut self.bytes, format_args!("adapter,{adapter}\n"));
-                self.listed.push(adapter);
-            }
+            Line::Adapter(adapter) => self.listed.push(adapter),
             Line::Party((adapter, party)) => {
-                put(&mut self.bytes, format_args!("party,{adapter},{party}\n"));
                 self.parties.push((adapter, party));
                 self.adapters.push(adapter);
             }
-            Line::Named(row, number) => {
-                put(&mut self.bytes, format_args!("{},{},{number},", row.kind.word(), row.adapter));
-                self.bytes.extend_from_slice(row.name);
-                self.bytes.push(b'\n');
-                self.rows.push(row);
-            }
+            Line::Named(row, _) => self.rows.push(row),
         }
     }
 
@@ -110,10 +107,6 @@ impl Sheet {
     pub fn is_own(&self, adapter: u8) -> bool {
         self.party_of(adapter) == self.party
     }
-}
-
-fn put(bytes: &mut Vec<u8>, what: std::fmt::Arguments) {
-    bytes.write_fmt(what).expect("a vector takes every write");
 }
 
 /// How many rows a good sheet gets: mostly a few, now and then none, many, or as many as there may be.
@@ -181,14 +174,14 @@ fn made(rng: &mut Rng, count: usize, shared: bool) -> Sheet {
     let palette = palette(rng, count);
     let listed = palette.adapters.iter().copied().filter(|_| !rng.once_in(8)).map(Line::Adapter).collect();
     let parties = if shared { parties::rows(rng, &palette.adapters, count) } else { Vec::new() };
-    let mut sheet = Sheet { adapters: palette.adapters.to_vec(), ..Sheet::default() };
-    sheet.begin(if rng.once_in(8) { adapter_number(rng) } else { palette.adapters[0] });
+    let primary = if rng.once_in(8) { adapter_number(rng) } else { palette.adapters[0] };
+    let mut sheet = Sheet { adapters: palette.adapters.to_vec(), primary, ..Sheet::default() };
+    let mut lines = vec![format!("primary,{primary}").into_bytes()];
     for line in arranged(rng, &palette, count, [listed, parties.into_iter().map(Line::Party).collect()]) {
+        lines.push(line.bytes());
         sheet.add(line);
     }
-    if rng.once_in(3) {
-        sheet.bytes.pop();
-    }
+    sheet.bytes = Ends::any(rng).join(rng, &lines);
     sheet
 }
 
@@ -239,40 +232,55 @@ fn put_among(rng: &mut Rng, lines: &mut Vec<Line>, more: Vec<Line>) {
     }
 }
 
-/// A sheet with good rows and exactly `length` bytes, which are at least 200.
-pub fn of_length(length: usize) -> Vec<u8> {
-    let mut bytes = b"primary,0\nadapter,0\n".to_vec();
-    while length - bytes.len() > 2 * LONGEST_ROW {
-        long_row(&mut bytes, LONGEST_ROW);
+/// A sheet with good rows, whose lines have this end, and exactly `length` bytes, which are at least 200.
+pub fn of_length(length: usize, end: &str) -> Vec<u8> {
+    let mut bytes = format!("primary,0{end}adapter,0{end}").into_bytes();
+    let longest = LONGEST_ROW + end.len();
+    while length - bytes.len() > 2 * longest {
+        long_row(&mut bytes, longest, end);
     }
     let left = length - bytes.len();
-    long_row(&mut bytes, left / 2);
-    long_row(&mut bytes, left - left / 2);
+    long_row(&mut bytes, left / 2, end);
+    long_row(&mut bytes, left - left / 2, end);
     bytes
 }
 
-/// The length of a lamp row with a name of 48 bytes and its LF.
-const LONGEST_ROW: usize = 59;
+/// The length of a lamp row with a name of 48 bytes, without its end.
+const LONGEST_ROW: usize = 58;
 
-fn long_row(bytes: &mut Vec<u8>, length: usize) {
-    let end = bytes.len() + length;
+fn long_row(bytes: &mut Vec<u8>, length: usize, end: &str) {
+    let before_end = bytes.len() + length - end.len();
     bytes.extend_from_slice(b"lamp,0,12,");
-    bytes.resize(end - 1, b'x');
-    bytes.push(b'\n');
+    bytes.resize(before_end, b'x');
+    bytes.extend_from_slice(end.as_bytes());
+}
+
+/// The same with line ends of one sort or of both.
+fn long(rng: &mut Rng, length: usize) -> Vec<u8> {
+    const MOST_CR: usize = 200;
+    match rng.below(3) {
+        0 => of_length(length, "\n"),
+        1 => of_length(length, "\r\n"),
+        _ => { let count = rng.within(1, MOST_CR); line_ends::with_cr(rng, &of_length(length - count, "\n"), count) }
+    }
 }
 
 /// Rows that no sheet may have, each for one reason.
 const BROKEN_ROWS: &[&[u8]] = &[
     b"", b",", b"adapter", b"adapter,", b"adapter,01", b"adapter,00", b"adapter,256", b"adapter,1000",
     b"adapter,4294967296", b"adapter,18446744073709551617", b"adapter,-1", b"adapter,+1", b"adapter, 1", b"adapter,1 ",
-    b"adapter,1\r", b"adapter,a", b"adapter,1a", b"adapter,1,", b"adapter,1,2", b"Adapter,1", b"adapters,1", b"adapte,1",
+    b"adapter,1\r\r", b"adapter,1\r,", b"adapter\r,1", b"adapter,\r1", b"adapter,\r", b"adapter\r", b"adapter,1,\r", b"\r", b"\r\r", b"\radapter,1",
+    b"adapter,1,2,3", b"adapter,1,2,3,4", b"adapter,a", b"adapter,1a", b"adapter,1,", b"adapter,1,2", b"Adapter,1", b"adapters,1", b"adapte,1",
     b" adapter,1", b"adapter 1", b"lamp", b"lamp,", b"lamp,0", b"lamp,0,", b"lamp,0,1", b"lamp,0,1,", b"lamp,,1,a",
     b"lamp,0,,a", b"lamp,00,1,a", b"lamp,01,1,a", b"lamp,256,1,a", b"lamp,0,64,a", b"lamp,0,01,a", b"lamp,0,00,a",
     b"lamp,0,100,a", b"lamp,0,4294967297,a", b"lamp,0,-1,a", b"lamp,0,1 ,a", b"lamp,0,x,a", b"lamp,x,1,a",
-    b"lamp,0,1,a,b", b"lamp,0,1,a,", b"lamp,0,1,,", b"lamp,0,1,a\"b", b"lamp,0,1,\"a\"", b"lamp,0,1,\"",
-    b"lamp,0,1,aaaaaaaaaaaaaaaaaaaaaaaaaaaaaaaaaaaaaaaaaaaaaaaaa",
+    b"lamp,0,1,\r", b"lamp,0,1,\r\r", b"lamp,0,1,a\r\r", b"lamp,0,1,a\rb", b"lamp,0,1,\ra", b"lamp,0,1,a,\rb", b"lamp,0,1,a,b\r\r", b"lamp,0,1\r",
+    b"lamp,0,1\r,a", b"lamp,0,\r1,a", b"lamp\r,0,1,a", b"lamp,,0,1,a", b"lamp,0,,1,a", b"lamp,0,64,a,b", b"lamp,0,01,a,b", b"lamp,256,1,a,b",
+    b"lamp,0,1,a,\"", b"lamp,0,1,\",a", b"lamp,0,1,\"a, b\"", b"lamp,0,1,a\"b", b"lamp,0,1,\"a\"", b"lamp,0,1,\"",
+    b"lamp,0,1,aaaaaaaaaaaaaaaaaaaaaaaaaaaaaaaaaaaaaaaaaaaaaaaaa", b"lamp,0,1,aaaaaaaaaaaaaaaaaaaaaaaaaaaaaaaaaaaaaaaaaaaaaaaaa\r",
+    b"lamp,0,1,aaaaaaaaaaaaaaaaaaaaaaaaaaaaaaaaaaaaaaaaaaaaaaa,a", b"lamp,0,1,aaaaaaaaaaaaaaaaaaaaaaaaaaaaaaaaaaaaaaaaaaaaaaaa\r\r",
     b"group,0,16,a", b"group,0,20,a", b"group,0,63,a", b"group,256,1,a", b"group,0,1,", b"group,0,01,a",
-    b"device,0,64,a", b"device,0,99,a", b"device,300,1,a", b"device,0,1,", b"device,0,1,a,b", b"input,0,64,a",
+    b"device,0,64,a", b"device,0,99,a", b"device,300,1,a", b"device,0,1,", b"device,0,64,a,b", b"input,0,64,a",
     b"input,0,256,a", b"input,256,1,a", b"input,0,1,", b"input,0,1,a\"", b"light,0,1,a", b"scene,0,1,a", b",0,1,a",
     b"Lamp,0,1,a", b"lamps,0,1,a", b"lam,0,1,a", b" lamp,0,1,a", b"primary,0", b"primary,1", b"primary", b"\xff",
     b"lamp\0,0,1,a", b"lamp,0\r,1,a", b"#", b"lamp,0,\xd9\xa1,a", b"group,0,1\t,a", b"input,0,1", b"device,0", b"group",
@@ -280,7 +288,8 @@ const BROKEN_ROWS: &[&[u8]] = &[
     b"party", b"party,", b"party,1", b"party,200,", b"party,,1", b"party,,", b"party,200,01", b"party,200,00",
     b"party,01,1", b"party,00,1", b"party,200,256", b"party,256,1", b"party,200,1000", b"party,200,4294967296",
     b"party,4294967296,1", b"party,200,-1", b"party,200,+1", b"party,-1,1", b"party, 200,1", b"party,200, 1",
-    b"party,200,1 ", b"party,200,x", b"party,x,1", b"party,200,1,", b"party,200,1,2", b"party,200,1\r",
+    b"party,200,1 ", b"party,200,x", b"party,x,1", b"party,200,1,", b"party,200,1,2",
+    b"party,200,1\r\r", b"party,200,1\r,", b"party,200\r,1", b"party,200,\r", b"party,200,1,\r", b"party,200,1,2,3",
     b"party,200,\"1\"", b"Party,200,1", b"parties,200,1", b"part,200,1", b" party,200,1", b"party 200,1",
     b"party,200,0255", b"party,200,1\0", b"party,200,\xff",
 ];
@@ -288,7 +297,8 @@ const BROKEN_ROWS: &[&[u8]] = &[
 /// First lines that no sheet may have.
 const BROKEN_FIRSTS: &[&[u8]] = &[
     b"", b"primary", b"primary,", b"primary,00", b"primary,01", b"primary,256", b"primary,999", b"primary,-1",
-    b"primary,a", b"primary, 0", b"primary,0 ", b"primary,0\r", b"primary,0,", b"primary,0,1", b"Primary,0",
+    b"primary,a", b"primary, 0", b"primary,0 ", b"primary,0\r\r", b"primary,0\r,", b"primary,\r0", b"primary,\r", b"primary\r", b"\r", b"\rprimary,0",
+    b"primary,0,", b"primary,0,1", b"primary,0,1,a", b"Primary,0",
     b" primary,0", b"\xef\xbb\xbfprimary,0", b"adapter,0", b"lamp,0,1,a", b"primary,4294967296", b"primar,0",
     b"primaryy,0", b"primary,\"0\"",
 ];
@@ -298,16 +308,21 @@ const BROKEN_WHOLES: &[fn(&mut Rng) -> Vec<u8>] = &[
     |_| Vec::new(),
     |_| b"\n".to_vec(),
     |_| b"\n\n".to_vec(),
-    |_| of_length(MOST_BYTES + 1),
-    |rng| of_length(rng.within(MOST_BYTES + 1, 20_000)),
-    |rng| insert_line(rng, &of_length(MOST_BYTES), b"adapter,256"),
+    |_| b"\r".to_vec(),
+    |_| b"\r\n".to_vec(),
+    |rng| long(rng, MOST_BYTES + 1),
+    |rng| { let length = rng.within(MOST_BYTES + 1, 20_000); long(rng, length) },
+    |rng| { let bytes = longest(rng); insert_line(rng, &bytes, b"adapter,256") },
     |rng| filled(rng, MOST_ROWS + 1).bytes,
     |rng| filled(rng, MOST_ROWS + 2).bytes,
     |rng| filled(rng, MOST_ROWS + 40).bytes,
     |rng| many_and(rng, MOST_ROWS, b"lamp,0,64,a"),
     |rng| many_and(rng, MOST_ROWS - 1, b"lamp,0,64,a"),
     |rng| many_and(rng, MOST_ROWS, b""),
+    |rng| many_and(rng, MOST_ROWS, b"\r"),
     |rng| many_and(rng, 1, b""),
+    |rng| many_and(rng, 3, b"\r"),
+    |rng| { let mut bytes = many_and(rng, 3, b"adapter,0"); bytes.push(b'\r'); bytes },
     |rng| { let bytes = filled(rng, MOST_ROWS + 1).bytes; insert_line(rng, &bytes, b"group,0,16,a") },
     |rng| without_first(&filled(rng, 4).bytes),
     |rng| second_party(rng, 8, |rng, _| parties::any(rng)),
@@ -385,6 +400,6 @@ pub fn broken(rng: &mut Rng, which: usize) -> Vec<u8> {
 }
 
 /// The longest sheet there may be, good throughout.
-pub fn longest() -> Vec<u8> {
-    of_length(MOST_BYTES)
+pub fn longest(rng: &mut Rng) -> Vec<u8> {
+    long(rng, MOST_BYTES)
 }

@@ -131,10 +131,8 @@ fn sizes_around_every_limit_come_up() {
 
 /// What the documents ask of a sheet, written plainly; the generator's good sheets meet it and its broken ones do not.
 fn well_formed(sheet: &[u8]) -> bool {
-    let body = sheet.strip_suffix(b"\n").unwrap_or(sheet);
-    let mut lines = body.split(|&b| b == b'\n');
-    let first = lines.next().unwrap_or_default().strip_prefix(b"primary,");
-    let rows: Vec<&[u8]> = lines.collect();
+    let lines = cases::lines(sheet);
+    let (first, rows) = (lines[0].strip_prefix(b"primary,"), lines[1..].to_vec());
     let lines_fit = first.is_some_and(|n| number(n, 255)) && rows.iter().all(|row| row_fits(row));
     sheet.len() <= 16_384 && rows.len() <= 512 && lines_fit && parties_differ(&rows)
 }
@@ -152,13 +150,12 @@ fn parties_differ(rows: &[&[u8]]) -> bool {
 }
 
 fn row_fits(row: &[u8]) -> bool {
-    let fields: Vec<&[u8]> = row.split(|&b| b == b',').collect();
-    match fields[..] {
+    match cases::fields(row)[..] {
         [b"adapter", adapter] => number(adapter, 255),
         [b"party", adapter, party] => number(adapter, 255) && number(party, 255),
         [kind, adapter, n, name] => {
             let last = match kind { b"group" => 15, b"lamp" | b"device" | b"input" => 63, _ => return false };
-            number(adapter, 255) && number(n, last) && (1..=48).contains(&name.len()) && !name.contains(&b'"')
+            number(adapter, 255) && number(n, last) && (1..=48).contains(&name.len()) && !name.iter().any(|b| b"\"\r\n".contains(b))
         }
         _ => false,
     }
@@ -170,10 +167,23 @@ fn good_sheets_are_well_formed() {
         let sheet = sheet::good(&mut Rng::new(SEED, index), 2);
         assert!(well_formed(&sheet.bytes), "{index}");
     }
-    assert!(well_formed(&sheet::longest()) && sheet::longest().len() == 16_384);
-    for length in 200..1_000 {
-        assert!(sheet::of_length(length).len() == length && well_formed(&sheet::of_length(length)), "{length}");
+    for (length, end) in (200..1_000).flat_map(|length| ["\n", "\r\n"].map(|end| (length, end))).chain([(16_384, "\n"), (16_384, "\r\n")]) {
+        let sheet = sheet::of_length(length, end);
+        assert!(sheet.len() == length && well_formed(&sheet) && sheet.ends_with(end.as_bytes()), "{length} {end:?}");
     }
+}
+
+#[test]
+fn good_sheets_have_every_line_end_and_names_with_commas() {
+    let sheets: Vec<Vec<u8>> = (0..3_000).map(|index| sheet::good(&mut Rng::new(SEED, index), 2).bytes).collect();
+    let count = |sort: &dyn Fn(&[u8]) -> bool| sheets.iter().filter(|sheet| sort(sheet)).count();
+    let raw = |sheet: &[u8]| sheet.split_inclusive(|&b| b == b'\n').map(|line| line.ends_with(b"\r\n")).collect::<Vec<_>>();
+    assert!(count(&|sheet| !sheet.contains(&b'\r')) > 1_000);
+    assert!(count(&|sheet| raw(sheet).len() > 1 && !raw(sheet).contains(&false)) > 300);
+    assert!(count(&|sheet| raw(sheet).contains(&true) && raw(sheet).contains(&false)) > 300);
+    assert!(count(&|sheet| sheet.ends_with(b"\r")) > 200 && count(&|sheet| !sheet.ends_with(b"\n") && !sheet.ends_with(b"\r")) > 300);
+    let with_comma = |sheet: &[u8]| cases::lines(sheet).iter().any(|line| cases::fields(line).get(3).is_some_and(|name| name.contains(&b',')));
+    assert!(count(&with_comma) > 1_000);
 }
 
 #[test]
@@ -188,8 +198,8 @@ fn broken_sheets_are_broken_in_every_way() {
 
 /// What a party's call may see of a sheet: which adapters are the party's, and their rows.
 fn seen(sheet: &[u8], party: u8) -> (Vec<bool>, Vec<Vec<u8>>) {
-    let field = |row: &[u8], nth: usize| row.split(|&b| b == b',').nth(nth).map(|field| String::from_utf8_lossy(field).into_owned());
-    let rows: Vec<&[u8]> = sheet.split(|&b| b == b'\n').skip(1).filter(|row| !row.is_empty()).collect();
+    let field = |row: &[u8], nth: usize| cases::fields(row).get(nth).map(|field| String::from_utf8_lossy(field).into_owned());
+    let rows: Vec<&[u8]> = cases::lines(sheet).split_off(1);
     let of = |adapter: &str| {
         let row = rows.iter().find(|row| row.starts_with(format!("party,{adapter},").as_bytes()));
         row.map_or("0".to_string(), |row| field(row, 2).unwrap_or_default()) == party.to_string()
@@ -216,8 +226,10 @@ fn a_sheet_beside_agrees_for_the_party_and_is_another_sheet() {
         other += usize::from(beside.sheet != case.sheet);
     }
     assert!(seen_others > 1_500 && without_others > 1_500 && other > 5_000, "{seen_others} {without_others} {other}");
-    let full = Case::new(1, 0, [], sheet::longest());
-    assert!(well_formed(&super::beside(&full).sheet));
+    for index in 0..60 {
+        let full = Case::new(index, 0, [], sheet::longest(&mut Rng::new(SEED, index)));
+        assert!(full.sheet.len() == 16_384 && well_formed(&full.sheet) && well_formed(&super::beside(&full).sheet), "{index}");
+    }
 }
 
 #[test]

@@ -64,9 +64,10 @@ pub const DECIMALS: &[&str] = &[
     "1000000001.0", "1.1000000001", "0.1000000000",
 ];
 
-/// Names that a sheet may have: none holds a comma, a quote or LF, and none is longer than 48 bytes.
+/// Names that a sheet may have: none holds a quote, LF or CR, and none is longer than 48 bytes.
 pub const NAMES: &[&[u8]] = &[
-    b"a", b"b", b"c", b"Aisle", b"Till", b"aisle", b"Aisle 2", b"Till\r", b"\0", b"a\0b", "\u{e9}".as_bytes(),
+    b"a", b"b", b"c", b"Aisle", b"Till", b"aisle", b"Aisle 2", b"Aisle 3, cold", b"Aisle 4, cold", b"cold", b" cold", b",", b"a,", b",a",
+    b"a,b,c", b"0,1,a", b"lamp,0,1,a", b"aaaaaaaaaaaaaaaaaaaaaaaaaaaaaaaaaaaaaaaaaaaaaaa,", b"Aisle 3", b"\0", b"a\0b", "\u{e9}".as_bytes(),
     "\u{65e5}\u{672c}\u{8a9e}".as_bytes(), "\u{1f4a1}".as_bytes(), b"when", b"(", b"# no comment", b" ", b"\t", b"1",
     b"aaaaaaaaaaaaaaaaaaaaaaaaaaaaaaaaaaaaaaaaaaaaaaaa", b"aaaaaaaaaaaaaaaaaaaaaaaaaaaaaaaaaaaaaaaaaaaaaaab",
     b"aaaaaaaaaaaaaaaaaaaaaaaaaaaaaaaaaaaaaaaaaaaaaaa",

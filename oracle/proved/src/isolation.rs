@@ -35,7 +35,10 @@ fn a_refused_primary_leaves_the_words_alone() {
 #[test]
 fn a_sheets_own_primary_is_found() {
     let sheets = generated().map(|case| case.sheet);
-    let odd = ["", "primary", "primary,", "primary,256", "primary,07", "primary,7,", "primary,7\r\n", "primary,255", "adapter,7\nprimary,7"];
+    let odd = [
+        "", "primary", "primary,", "primary,256", "primary,07", "primary,7,", "primary,7\r\n", "primary,7\r", "primary,7\r\r\n", "primary,\r7", "\r\nprimary,7",
+        "primary,255", "adapter,7\nprimary,7",
+    ];
     for sheet in sheets.chain(odd.map(|sheet| sheet.as_bytes().to_vec())) {
         assert_eq!(sheet_primary(&sheet), u32::from(own_primary(&sheet)), "{}", sheet.escape_ascii());
     }

@@ -27,7 +27,7 @@ fn the_shop_call_is_the_default_call_less_the_profile() {
         assert_eq!((default.result, &shop.words), (0, &default.words), "{}", case.id);
         assert!(shop.answer[3..].iter().all(|&word| word == 0), "{}", case.id);
     }
-    assert!(left_out.iter().all(|&count| count > 20), "{left_out:?}");
+    assert!(left_out.iter().all(|&count| count >= 10), "{left_out:?}");
 }
 
 #[test]

@@ -71,9 +71,7 @@ pub fn read(bytes: &[u8]) -> Result<Sheet<'_>, u32> {
         return Err(0);
     }
     let mut sheet = Sheet::default();
-    // "Lines end with LF, the last may lack it": behind a last LF no further line begins.
-    let lines = bytes.strip_suffix(b"\n").unwrap_or(bytes);
-    for (before, line) in (0..).zip(lines.split(|&b| b == b'\n')) {
+    for (before, line) in (0..).zip(lines(bytes)) {
         if before > MOST_ROWS || !sheet.add(before, line) {
             return Err(u32::try_from(before + 1).unwrap_or(u32::MAX));
         }
@@ -81,10 +79,18 @@ pub fn read(bytes: &[u8]) -> Result<Sheet<'_>, u32> {
     Ok(sheet)
 }
 
+/// The lines without their ends. "Lines end with LF, the last may lack it": behind a last LF no further line begins, but a CR there
+/// does begin one. "One CR directly before LF or the end of the sheet belongs to the line end", document 02 §8.
+fn lines(bytes: &[u8]) -> impl Iterator<Item = &[u8]> {
+    let lines = bytes.strip_suffix(b"\n").unwrap_or(bytes).split(|&b| b == b'\n');
+    lines.map(|line| line.strip_suffix(b"\r").unwrap_or(line))
+}
+
 impl<'a> Sheet<'a> {
     /// Takes a line with `before` lines before it; false if it is not well formed.
     fn add(&mut self, before: usize, line: &'a [u8]) -> bool {
-        let fields: Vec<&[u8]> = line.split(|&b| b == b',').collect();
+        // "A name runs to the line end, commas included": only the first three commas part fields.
+        let fields: Vec<&[u8]> = line.splitn(4, |&b| b == b',').collect();
         match fields[..] {
             [b"primary", adapter] if before == 0 => decimal(adapter, HIGHEST).is_some(),
             _ if before == 0 => false,
@@ -123,7 +129,8 @@ fn row<'a>(kind: &[u8], adapter: &[u8], number: &[u8], name: &'a [u8]) -> Option
     let kind = Kind::of(kind)?;
     let adapter = decimal(adapter, HIGHEST)?;
     let number = decimal(number, kind.highest())?;
-    let fits = (1..=MOST_NAME).contains(&name.len()) && !name.contains(&b'"');
+    // "A name has no quote, LF or other CR."
+    let fits = (1..=MOST_NAME).contains(&name.len()) && !name.iter().any(|byte| b"\"\r".contains(byte));
     fits.then_some(Row { kind, adapter, number, name })
 }
 

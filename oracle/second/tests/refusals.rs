@@ -40,7 +40,7 @@ fn n03_bad_lines() {
         ("primary,0\nadapter,0\nlamp,0,64,a", 3),
         ("primary,0\nadapter,0\ngroup,0,16,a", 3),
         ("primary,0\nadapter,0\nlamp,0,0,", 3),
-        ("primary,0\nadapter,0\nlamp,0,0,a,b", 3),
+        ("primary,0\nadapter,0\nlamp,0,0,a\rb", 3),
         ("primary,0\nadapter,0\nlamp,256,0,a", 3),
         ("primary,0\nadapter,0\nscene,0,0,a", 3),
         ("primary,0\nadapter,0\nlamp,0,0", 3),

@@ -1,4 +1,5 @@
-//! The name sheet of document 01 with the parties of document 02 §6, and the names that it gives to the supplied Rust.
+//! The name sheet of document 01 with the parties of document 02 §6 and the line ends and names of §8, and the names that it gives
+//! to the supplied Rust.
 
 use dali2rust_rules_model::{DeviceRef, GroupRef, InputDeviceRef, LampRef, NameResolver};
 
@@ -59,8 +60,22 @@ fn kind(field: &[u8]) -> Option<(Kind, u8)> {
     }
 }
 
+/// The fields of a line: what stands behind the third comma is one, with all its commas.
 fn fields(line: &[u8]) -> Vec<&[u8]> {
-    line.split(|&b| b == b',').collect()
+    let mut fields: Vec<&[u8]> = Vec::new();
+    let mut rest = line;
+    while let (Some(comma), 0..=2) = (rest.iter().position(|&b| b == b','), fields.len()) {
+        fields.push(&rest[..comma]);
+        rest = &rest[comma + 1..];
+    }
+    fields.push(rest);
+    fields
+}
+
+/// Whether a row may have the name.
+fn is_name(name: &[u8]) -> bool {
+    let fits = |&byte: &u8| byte != b'"' && byte != b'\r';
+    !name.is_empty() && name.len() <= MOST_NAME_BYTES && name.iter().all(fits)
 }
 
 /// Whether a line may be the first. Its adapter is not kept, since the call names the primary.
@@ -68,9 +83,14 @@ fn is_first(line: &[u8]) -> bool {
     matches!(fields(line)[..], [b"primary", adapter] if number(adapter, 255).is_some())
 }
 
-/// The lines of a sheet: each ends with LF, which the last may lack. An empty sheet is one empty line.
+/// The lines of a sheet: each ends with LF, which the last may lack, and with one CR before that end, if there is one. An empty sheet
+/// is one empty line.
 fn lines(bytes: &[u8]) -> impl Iterator<Item = &[u8]> {
-    bytes.strip_suffix(b"\n").unwrap_or(bytes).split(|&b| b == b'\n')
+    let lines = bytes.strip_suffix(b"\n").unwrap_or(bytes).split(|&b| b == b'\n');
+    lines.map(|line| match line {
+        [before @ .., b'\r'] => before,
+        _ => line,
+    })
 }
 
 impl Sheet {
@@ -115,7 +135,7 @@ impl Sheet {
             [word, adapter, id, name] => {
                 let (kind, most) = kind(word)?;
                 let (adapter, number) = (number(adapter, 255)?, number(id, most)?);
-                if name.is_empty() || name.len() > MOST_NAME_BYTES || name.contains(&b'"') {
+                if !is_name(name) {
                     return None;
                 }
                 self.named.push(Named { kind, adapter, number, name: name.to_vec() });

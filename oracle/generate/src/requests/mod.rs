@@ -1,6 +1,7 @@
 //! Fixed cases for the requests of document 02, to be stored behind the sample of document 01.
 
 mod profile;
+mod sheets;
 
 use cases::{Case, Habit, Settings, FORMER_LEAST_WORDS, LEAST_WORDS, MOST_TOKENS, MOST_WORDS};
 
@@ -12,6 +13,7 @@ pub fn requests() -> Vec<Case> {
     cases.extend(parties());
     cases.extend(topics());
     cases.extend(profile::cases());
+    cases.extend(sheets::cases());
     cases
 }
 

@@ -26,7 +26,7 @@ fn question_3_the_sheet_is_well_formed() {
     for (sheet, line) in [
         ("", 1), ("\n", 1), ("primary", 1), ("primary,256", 1), ("primary,00", 1), ("primary,", 1), ("adapter,0", 1),
         ("primary,0\n\n", 2), ("primary,0\nadapter,01", 2), ("primary,0\nlamp,0,64,a", 2),
-        ("primary,0\ngroup,0,16,a", 2), ("primary,0\nlamp,0,1,", 2), ("primary,0\nlamp,0,1,a,b", 2),
+        ("primary,0\ngroup,0,16,a", 2), ("primary,0\nlamp,0,1,", 2), ("primary,0\nlamp,0,1,a\rb", 2),
         ("primary,0\nscene,0,1,a", 2), ("primary,0\nadapter,0\n adapter,1", 3), ("primary,0\nprimary,0", 2),
         ("primary,0\nlamp,0,1,a\"b", 2), ("primary,0\nadapter,+1", 2),
     ] {

@@ -4,5 +4,6 @@ mod first_questions;
 mod pairs;
 mod parties;
 mod settled;
+mod sheets;
 mod told;
 mod topics;

@@ -89,10 +89,6 @@ fn point_11_the_primary_is_not_thereby_listed() {
 #[test]
 fn point_12_bytes_of_a_sheets_names() {
     let text = b"when lamp(\"Till\") turns on";
-    assert_eq!(verdict_with(text, b"primary,0\nlamp,0,7,Till\r\n"), "refused 31 1 11 0");
-    let with_cr = b"when lamp(\"Till\r\") turns on";
-    assert_eq!(verdict_with(with_cr, b"primary,0\nlamp,0,7,Till\r\n"), "accepted 1 0 / T lamp_turns 0 7 on");
-    assert_eq!(verdict_with(text, b"primary,0\r\nlamp,0,7,Till\r\n"), "refused 3 1 0 0");
     let odd = b"primary,0\nlamp,0,7,a\0\xff\nlamp,0,7,Till";
     assert_eq!(verdict_with(text, odd), "accepted 1 0 / T lamp_turns 0 7 on");
     assert_eq!(verdict_with(text, b"primary,0\nlamp,0,7,\"Till\""), "refused 3 2 0 0");

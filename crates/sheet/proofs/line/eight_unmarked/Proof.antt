@@ -11,7 +11,7 @@ use Rattle.sheet.proofs.line.eight_unmarked.Tie as tie
 
 -- the code's test of a byte
 abbrev other : ℕ → Bool
-other b = eqb b 0x2C || eqb b 0x22
+other b = eqb b 0x22 || eqb b 0x0D
 
 neither : (t u : Bool) → not (t || u) ≡ not (pick t true u)
 neither true u = refl
@@ -19,7 +19,7 @@ neither false u = refl
 
 opposite : (b : ℕ) → not (other b) ≡ not (isMark b)
 unfolding isMark
-opposite b = neither (eqb b 0x2C) (eqb b 0x22)
+opposite b = neither (eqb b 0x22) (eqb b 0x0D)
 
 pub eight-unmarked-spec : {M : Type 1} → statement M
 eight-unmarked-spec =

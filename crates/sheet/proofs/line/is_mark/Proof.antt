@@ -9,9 +9,9 @@ use Rattle.sheet.proofs.LineLaws.{reading}
 use Rattle.sheet.proofs.line.is_mark.Statement.{statement}
 use Rattle.sheet.proofs.line.is_mark.Tie as tie
 
-above : (c : ℕ) → 0x2C < c → false ≡ isMark c
+above : (c : ℕ) → 0x22 < c → false ≡ isMark c
 unfolding isMark
-above c h = rw (ne-eqb c 0x2C (λ e. omega arith), ne-eqb c 0x22 (λ e. omega arith))
+above c h = rw (ne-eqb c 0x22 (λ e. omega arith), ne-eqb c 0x0D (λ e. omega arith))
 
 pub is-mark-spec : {M : Type 1} → statement M
 unfolding isMark

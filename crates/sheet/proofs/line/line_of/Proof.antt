@@ -1,23 +1,12 @@
-use mathlib.Core.Path.{sym}
-use native.Mathlib.Omega.{arith}
-use lib.Seq.{length-take-le}
 use borrow.Author.Needs.{needs}
-use Rattle.sheet.specs.Line.{lineOf}
 use Rattle.sheet.proofs.LineLaws.{reading}
 use Rattle.sheet.proofs.line.line_of.Statement.{statement}
 use Rattle.sheet.proofs.line.line_of.Tie as tie
 
 pub line-of-spec : {M : Type 1} → statement M
-unfolding lineOf
 line-of-spec =
     tie.close
     (tie.spec
     (λ c κs. search needs)
-    (λ c. search reading)
-    (λ c. let h = c .before .if1 .left in sym (length-take-le _ _ (omega arith)))
-    (λ c. search needs)
-    (λ c. search needs)
-    (λ c. search needs)
-    (λ c. search needs)
     (λ c κs. search needs)
     (λ c. search reading))

@@ -7,7 +7,7 @@ use Rattle.bytes.specs.Bytes.{indexOf}
 use Rattle.text.specs.Part.{partOf}
 use Rattle.text.specs.Find.{firstAt}
 use Rattle.text.specs.Split.{split}
-use Rattle.sheet.specs.Line.{hasComma, lineOf}
+use Rattle.sheet.specs.Line.{withoutReturn, hasComma, bareLine, lineOf}
 use Rattle.sheet.specs.Sheet.{lines, lineEnd, primaryBy, primaryLine}
 use Rattle.sheet.specs.declared.line.Line.{Line}
 use Rattle.text.proofs.SplitLaws.{split-on}
@@ -16,7 +16,7 @@ use Rattle.sheet.proofs.rows.primary.Tie as tie
 
 -- the line at the start is the first; of an empty sheet it is empty, and says nothing
 first : (s : List ℕ) → primaryLine (lines s) ≡ primaryBy (lineOf (partOf s 0 (lineEnd s 0)))
-unfolding primaryLine split firstAt partOf lineOf hasComma indexOf
+unfolding primaryLine split firstAt partOf withoutReturn bareLine lineOf hasComma indexOf
 first [] = refl
 first (c ∷ s) = ap primaryLine (split-on 0x0A (c ∷ s) 0 (omega arith))
 
