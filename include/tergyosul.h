@@ -82,8 +82,18 @@ enum tergyosul_record {
 #define TERGYOSUL_LEX_WORDS 4
 
 /*
+ * The length of an answer of tergyosul_next_chain: number, line, column, detail, the count of the pieces, and from word
+ * TERGYOSUL_CHAIN_PIECES on TERGYOSUL_MOST_PIECES pieces, those past the count 0.
+ */
+#define TERGYOSUL_CHAIN_WORDS 20
+#define TERGYOSUL_CHAIN_COUNT 4
+#define TERGYOSUL_CHAIN_PIECES 5
+#define TERGYOSUL_MOST_PIECES 15
+
+/*
  * The result of a call whose answer is too short: shorter than TERGYOSUL_ANSWER_WORDS, of tergyosul_lex than
- * TERGYOSUL_LEX_WORDS. If answer is too short, nothing is read and nothing is written. No refusal has this number.
+ * TERGYOSUL_LEX_WORDS, of tergyosul_next_chain than TERGYOSUL_CHAIN_WORDS. If answer is too short, nothing is read and
+ * nothing is written. No refusal has this number.
  */
 #define TERGYOSUL_NO_ROOM 4294967295u
 
@@ -175,6 +185,33 @@ enum tergyosul_reading {
     TERGYOSUL_READ_VAR = 23 /* NAME */
 };
 
+/* The pieces of which chains of conditions are made: each is the place of its word or sign in this order. */
+enum tergyosul_piece {
+    TERGYOSUL_PIECE_LAMP = 0,
+    TERGYOSUL_PIECE_SUN = 1,
+    TERGYOSUL_PIECE_TIME = 2,
+    TERGYOSUL_PIECE_IS = 3,
+    TERGYOSUL_PIECE_IN = 4,
+    TERGYOSUL_PIECE_ON = 5,
+    TERGYOSUL_PIECE_OFF = 6,
+    TERGYOSUL_PIECE_UP = 7,
+    TERGYOSUL_PIECE_DOWN = 8,
+    TERGYOSUL_PIECE_SUNRISE = 9,
+    TERGYOSUL_PIECE_SUNSET = 10,
+    TERGYOSUL_PIECE_LEVEL = 11,
+    TERGYOSUL_PIECE_AND = 12,
+    TERGYOSUL_PIECE_0 = 13,
+    TERGYOSUL_PIECE_63 = 14,
+    TERGYOSUL_PIECE_64 = 15,
+    TERGYOSUL_PIECE_OPEN = 16,   /* ( */
+    TERGYOSUL_PIECE_CLOSE = 17,  /* ) */
+    TERGYOSUL_PIECE_POINT = 18,  /* . */
+    TERGYOSUL_PIECE_POINTS = 19, /* .. */
+    TERGYOSUL_PIECE_EQUAL = 20,  /* == */
+    TERGYOSUL_PIECE_PLUS = 21,
+    TERGYOSUL_PIECE_MINUS = 22
+};
+
 /*
  * Reads a rule text with a name sheet, for a party. The sheet's `party` rows say whose an adapter is; one without such a
  * row is party 0's. The call sees the party's adapters and the rows on them, and nothing of another's: a name that only
@@ -239,6 +276,17 @@ uint32_t tergyosul_sheet_primary(const uint8_t *sheet, size_t sheet_length);
 uint32_t tergyosul_lex(const uint8_t *text, size_t text_length,
                        uint32_t *words, size_t words_length,
                        uint32_t *answer, size_t answer_length);
+
+/*
+ * Every chain of one to four conditions, joined by `and`, that is accepted behind `if` and has at most
+ * TERGYOSUL_MOST_PIECES tokens, all of them pieces as above: 636 in all, shorter ones first, then in the order of the
+ * pieces, token by token. pieces is a start: with a length of 0 the answer is the first chain; with one of the list it is
+ * the next, or a count of 0 where none follows. A start that has pieces and is not in the list, as one with a number above
+ * 22 or with more than TERGYOSUL_MOST_PIECES, is refused with 67, at 0:0, and a count of 0. The result is 0, or 67, or
+ * TERGYOSUL_NO_ROOM.
+ */
+uint32_t tergyosul_next_chain(const uint8_t *pieces, size_t pieces_length,
+                              uint32_t *answer, size_t answer_length);
 
 #ifdef __cplusplus
 }

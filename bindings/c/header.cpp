@@ -20,3 +20,12 @@ std::uint32_t triggers_of(const std::vector<std::uint8_t> &text, const std::vect
                                                 TERGYOSUL_ANSWER_WORDS);
     return number == 0 ? answer[4] : 0;
 }
+
+std::uint32_t first_piece_behind(const std::vector<std::uint8_t> &chain)
+{
+    static const std::uint8_t nothing = 0;
+    std::uint32_t answer[TERGYOSUL_CHAIN_WORDS] = {0};
+    const std::uint32_t number = tergyosul_next_chain(chain.empty() ? &nothing : chain.data(), chain.size(), answer,
+                                                      TERGYOSUL_CHAIN_WORDS);
+    return number == 0 ? answer[TERGYOSUL_CHAIN_PIECES] : number;
+}

@@ -36,7 +36,7 @@ int main(void)
     static const uint8_t text[] = "when http trigger";
     static const uint8_t sheet[] = "primary,0";
     const size_t text_length = sizeof text - 1, sheet_length = sizeof sheet - 1;
-    uint32_t read, archive, shop, lexed;
+    uint32_t read, archive, shop, lexed, chain;
 
     fill(words, TERGYOSUL_TOKEN_WORDS);
     fill(answer, TERGYOSUL_ANSWER_WORDS);
@@ -47,8 +47,10 @@ int main(void)
     shop = tergyosul_read_shop(text, text_length, sheet, sheet_length, text, 0, 0, 0, words, TERGYOSUL_TOKEN_WORDS,
                                answer, TERGYOSUL_ANSWER_WORDS - 1);
     lexed = tergyosul_lex(text, text_length, words, TERGYOSUL_TOKEN_WORDS, answer, TERGYOSUL_LEX_WORDS - 1);
+    chain = tergyosul_next_chain(text, 0, answer, TERGYOSUL_CHAIN_WORDS - 1);
     if (read != TERGYOSUL_NO_ROOM || archive != TERGYOSUL_NO_ROOM || shop != TERGYOSUL_NO_ROOM ||
-        lexed != TERGYOSUL_NO_ROOM) {
+        lexed != TERGYOSUL_NO_ROOM ||
+        chain != TERGYOSUL_NO_ROOM) {
         fprintf(stderr, "an answer without room is not told\n");
         return 1;
     }
@@ -66,6 +68,11 @@ int main(void)
     if (read != 0 || archive != 0 || shop != 0 || lexed != 0 || answer[3] != 3 ||
         answer[TERGYOSUL_ROW] != TERGYOSUL_HTTP_TRIGGER) {
         fprintf(stderr, "an answer that just has room is not given\n");
+        return 1;
+    }
+    chain = tergyosul_next_chain(text, 0, answer, TERGYOSUL_CHAIN_WORDS);
+    if (chain != 0 || answer[TERGYOSUL_CHAIN_COUNT] != 3 || answer[TERGYOSUL_CHAIN_PIECES] != TERGYOSUL_PIECE_SUN) {
+        fprintf(stderr, "a chain that just has room is not given\n");
         return 1;
     }
     return 0;

@@ -71,6 +71,8 @@ extern "C" {
         answer: *mut u32,
         answer_length: usize,
     ) -> u32;
+
+    fn tergyosul_next_chain(pieces: *const u8, pieces_length: usize, answer: *mut u32, answer_length: usize) -> u32;
 }
 
 /// The result of a call whose answer is too short: nothing was read and nothing written.
@@ -153,4 +155,9 @@ pub fn lex(text: &[u8], words: &mut [u32], answer: &mut [u32]) -> u32 {
             answer.len(),
         )
     }
+}
+
+pub fn next_chain(pieces: &[u8], answer: &mut [u32]) -> u32 {
+    // SAFETY: as above: two slices that are borrowed for the call, the mutable one apart from the other.
+    unsafe { tergyosul_next_chain(pieces.as_ptr(), pieces.len(), answer.as_mut_ptr(), answer.len()) }
 }

@@ -13,7 +13,7 @@ const FIRST_CONDITION: usize = 5;
 const NO_TYPE: u32 = u32::MAX;
 
 #[cold]
-fn broken() -> ! {
+pub fn broken() -> ! {
     panic!("the answer does not follow its layout")
 }
 

@@ -37,6 +37,7 @@ extern crate std;
 #[allow(unsafe_code)]
 mod boundary;
 mod call;
+mod chain;
 mod layout;
 mod party;
 mod refusal;
@@ -46,6 +47,7 @@ mod tests;
 mod token;
 
 pub use call::Call;
+pub use chain::{chains, next_chain, Chain, MOST_PIECES, VOCABULARY};
 pub use party::{sheet_primary, Party};
 pub use refusal::Refusal;
 pub use rule::{

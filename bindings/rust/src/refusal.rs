@@ -6,11 +6,11 @@ use core::fmt;
 /// A refusal: its number, its place and a detail. `docs/MANUAL.md` has an example of each and says what to do.
 #[derive(Debug, Clone, Copy, PartialEq, Eq, Hash)]
 pub struct Refusal {
-    /// 1 to 4, 10 to 13, 15 to 41, 53, 57 to 59 or 63 to 66.
+    /// 1 to 4, 10 to 13, 15 to 41, 53, 57 to 59 or 63 to 67.
     pub number: u32,
     /// From 1, or 0 where there is no place. For number 3 it is the sheet's line, for the others the text's.
     pub line: u32,
-    /// From 1, in characters; 0 for the numbers 1 to 3 and 53.
+    /// From 1, in characters; 0 for the numbers 1 to 3, 53 and 67.
     pub column: u32,
     /// With 32 an adapter, with 33 and 34 a count of rows, else 0.
     pub detail: u32,
@@ -63,6 +63,7 @@ impl Refusal {
             64 => "a topic is empty, or a character of it is forbidden",
             65 => "a topic has more than 48 bytes",
             66 => "eight other topics are named already",
+            67 => "the start is no chain of the list",
             NO_ROOM => "there is no room for the answer",
             _ => "the number is not known",
         }

@@ -1,8 +1,9 @@
 //! Every kind, code and choice of the layout, by calls of the library: the words of the answer, and the value they become.
 
 use crate::rule::*;
+use crate::chain::{decoded, CHAIN_WORDS};
 use crate::{boundary, layout, lex, read, read_archive, tokens, with_room};
-use crate::{Call, Party, Refusal, Token, LEX_WORDS, RECORD_WORDS, TOKEN_WORDS};
+use crate::{Call, Party, Refusal, Token, LEX_WORDS, MOST_PIECES, RECORD_WORDS, TOKEN_WORDS, VOCABULARY};
 use std::format;
 use std::string::{String, ToString};
 use std::vec::Vec;
@@ -507,6 +508,10 @@ fn no_room_for_the_answer() {
         assert_eq!(boundary::lex(text, &mut words, &mut answer[..LEX_WORDS - 1]), boundary::NO_ROOM);
         assert_eq!(boundary::lex(text, &mut words, &mut []), boundary::NO_ROOM);
     }
+    for start in [&[][..], &[1, 3, 7], &[23]] {
+        assert_eq!(boundary::next_chain(start, &mut answer[..CHAIN_WORDS - 1]), boundary::NO_ROOM);
+        assert_eq!(boundary::next_chain(start, &mut []), boundary::NO_ROOM);
+    }
     assert!(answer.iter().all(|&word| word == 7));
     assert!(words.iter().all(|&word| word == 9));
     let refusal = with_room(boundary::NO_ROOM).unwrap_err();
@@ -524,6 +529,8 @@ fn the_lengths_are_the_headers() {
     assert_eq!(defined("TOKEN_WORDS"), TOKEN_WORDS as u32);
     assert_eq!(defined("ANSWER_WORDS"), layout::ANSWER_WORDS as u32);
     assert_eq!(defined("LEX_WORDS"), LEX_WORDS as u32);
+    assert_eq!(defined("CHAIN_WORDS"), CHAIN_WORDS as u32);
+    assert_eq!(defined("MOST_PIECES"), MOST_PIECES as u32);
     assert_eq!(defined("NO_ROOM"), boundary::NO_ROOM);
 }
 
@@ -588,12 +595,12 @@ fn lexing_refuses_what_is_not_utf8() {
 #[test]
 fn every_refusal_has_its_own_meaning() {
     let refusal = |number| Refusal { number, line: 2, column: 3, detail: 4 };
-    let known = |number| matches!(number, 1..=4 | 10..=13 | 15..=41 | 53 | 57..=59 | 63..=66);
+    let known = |number| matches!(number, 1..=4 | 10..=13 | 15..=41 | 53 | 57..=59 | 63..=67);
     let mut meanings: Vec<&str> = (0..100).filter(|&n| known(n)).map(|n| refusal(n).meaning()).collect();
-    assert_eq!(meanings.len(), 43);
+    assert_eq!(meanings.len(), 44);
     meanings.sort();
     meanings.dedup();
-    assert_eq!(meanings.len(), 43);
+    assert_eq!(meanings.len(), 44);
     let unknown = refusal(0).meaning();
     assert!((0..100).all(|n| known(n) != (refusal(n).meaning() == unknown)));
     assert_eq!(refusal(3).to_string(), "sheet line 2: the sheet is not well formed (refusal 3)");
@@ -641,4 +648,41 @@ fn a_broken_answer_is_seen() {
     for words in cases {
         assert_eq!(decoded(words), broken, "{words:?}");
     }
+}
+
+/// Every word of an answer of `tergyosul_next_chain`, and no word behind it.
+#[test]
+fn a_chain_is_its_words() {
+    let answer = |start: &[u8]| {
+        let mut answer = [7; CHAIN_WORDS + 2];
+        let number = boundary::next_chain(start, &mut answer);
+        assert_eq!((number, &answer[CHAIN_WORDS..]), (answer[0], &[7, 7][..]));
+        answer[..CHAIN_WORDS].to_vec()
+    };
+    let words = |front: &[u32]| [front, &[0; CHAIN_WORDS][front.len()..]].concat();
+    assert_eq!(answer(&[]), words(&[0, 0, 0, 0, 3, 1, 3, 7]));
+    assert_eq!(answer(&[1, 3, 8]), words(&[0, 0, 0, 0, 5, 2, 4, 9, 19, 9]));
+    assert_eq!(answer(&[2, 4, 10, 19, 10, 12, 2, 4, 10, 19, 10, 12, 1, 3, 8]), words(&[]));
+    assert_eq!(answer(&[1, 3]), words(&[67]));
+}
+
+/// The header's pieces are the vocabulary's, in its order; signs have names there.
+#[test]
+fn the_pieces_are_the_headers() {
+    let signs = [("(", "OPEN"), (")", "CLOSE"), (".", "POINT"), ("..", "POINTS"), ("==", "EQUAL"), ("+", "PLUS"), ("-", "MINUS")];
+    let named = |word: &str| signs.iter().find(|(sign, _)| *sign == word).map_or(word.to_uppercase(), |(_, name)| name.to_string());
+    let pieces: Vec<(String, u32)> = VOCABULARY.iter().map(|word| format!("PIECE_{}", named(word))).zip(0..).collect();
+    assert_eq!(pieces, constants("tergyosul_piece"));
+}
+
+#[test]
+fn a_broken_chain_is_seen() {
+    let broken = |at: usize, word: u32| {
+        let mut answer = [0; CHAIN_WORDS];
+        answer[4] = 3;
+        answer[at] = word;
+        std::panic::catch_unwind(|| decoded(&answer)).is_err()
+    };
+    assert!(broken(4, 16) && broken(4, u32::MAX) && broken(5, 23) && broken(19, 256));
+    assert!(!broken(4, 15) && !broken(5, 22));
 }

@@ -51,12 +51,28 @@ fn read_by<'a>(habit: &str) -> Read<'a> {
     }
 }
 
-/// A `case` is party 0's, with the sheet's own primary and no topics.
-fn cases(mut input: &[u8]) -> Vec<Case<'_>> {
-    let mut cases = Vec::new();
+/// A line without its LF, taken from the front.
+fn line<'a>(input: &mut &'a [u8]) -> &'a str {
+    let end = input.iter().position(|&b| b == b'\n').expect("LF behind a line");
+    str::from_utf8(body(input, &end.to_string())).expect("a line of text")
+}
+
+/// A start of a chain: its number and its pieces. They stand behind all cases.
+fn starts(mut input: &[u8]) -> Vec<(&str, Vec<u8>)> {
+    let mut starts = Vec::new();
     while !input.is_empty() {
-        let end = input.iter().position(|&b| b == b'\n').expect("LF behind a header");
-        let header: Vec<&str> = str::from_utf8(&input[..end]).expect("a header").split(' ').collect();
+        let ["next", id, _, _] = line(&mut input).split(' ').collect::<Vec<_>>()[..] else { panic!("a start") };
+        let pieces = line(&mut input).split_terminator(' ').map(|piece| piece.parse().expect("a piece")).collect();
+        starts.push((id, pieces));
+    }
+    starts
+}
+
+/// The cases, and the starts of chains behind them. A `case` is party 0's, with the sheet's own primary and no topics.
+fn cases(mut input: &[u8]) -> (Vec<Case<'_>>, Vec<(&str, Vec<u8>)>) {
+    let mut cases = Vec::new();
+    while !input.is_empty() && !input.starts_with(b"next ") {
+        let header: Vec<&str> = line(&mut input).split(' ').collect();
         let (id, habit, words, text, sheet, settings) = match header[..] {
             ["case", id, words, text, sheet] => (id, "archive", words, text, sheet, None),
             ["call", id, habit, words, party, primary, text, sheet, topics] => {
@@ -64,7 +80,6 @@ fn cases(mut input: &[u8]) -> Vec<Case<'_>> {
             }
             _ => panic!("{header:?}"),
         };
-        input = &input[end + 1..];
         let text = body(&mut input, text);
         let sheet = body(&mut input, sheet);
         let call = match settings {
@@ -76,7 +91,7 @@ fn cases(mut input: &[u8]) -> Vec<Case<'_>> {
         };
         cases.push(Case { id, read: read_by(habit), words: words.parse().expect("a length"), text, sheet, call });
     }
-    cases
+    (cases, starts(input))
 }
 
 /// The tokens whose records a call wrote.
@@ -100,6 +115,16 @@ fn answer(case: &Case) -> String {
     out
 }
 
+/// The answer to a start of a chain, in the replay format. This crate lends its own array for it.
+fn answer_to_start(id: &str, pieces: &[u8]) -> String {
+    let said = match tergyosul::next_chain(pieces) {
+        Err(r) => format!("refused {} {} {} {}", r.number, r.line, r.column, r.detail),
+        Ok(None) => "none".to_string(),
+        Ok(Some(chain)) => chain.pieces().iter().fold("chain".to_string(), |line, piece| format!("{line} {piece}")),
+    };
+    format!("case {id}\nbuffer kept\n{said}\n")
+}
+
 /// The stored answers, one for each case.
 fn answers(output: &str) -> Vec<String> {
     let mut answers: Vec<String> = Vec::new();
@@ -116,11 +141,12 @@ fn answers(output: &str) -> Vec<String> {
 fn every_stored_answer_is_given() {
     let input = stored("stdin");
     let output = String::from_utf8(stored("stdout")).expect("the answers are UTF-8");
-    let (cases, answers) = (cases(&input), answers(&output));
-    assert!(cases.len() >= 1286);
-    assert_eq!(cases.len(), answers.len());
-    for (case, expected) in cases.iter().zip(&answers) {
-        assert_eq!(answer(case), *expected, "case {}", case.id);
+    let ((cases, starts), answers) = (cases(&input), answers(&output));
+    assert!(cases.len() >= 1286 && starts.len() >= 100);
+    assert_eq!(cases.len() + starts.len(), answers.len());
+    let given = cases.iter().map(answer).chain(starts.iter().map(|(id, pieces)| answer_to_start(id, pieces)));
+    for (given, expected) in given.zip(&answers) {
+        assert_eq!(given, *expected);
     }
 }
 
@@ -128,7 +154,7 @@ fn every_stored_answer_is_given() {
 #[test]
 fn lexing_agrees() {
     let input = stored("stdin");
-    for case in cases(&input) {
+    for case in cases(&input).0 {
         let mut words = vec![UNTOUCHED; case.words];
         let read = case.read(&mut words);
         let mut lexed_words = vec![UNTOUCHED; case.words];
@@ -147,7 +173,7 @@ fn lexing_agrees() {
 fn calls_of_several_threads() {
     let input = stored("stdin");
     let output = String::from_utf8(stored("stdout")).expect("the answers are UTF-8");
-    let (cases, answers) = (cases(&input), answers(&output));
+    let ((cases, _), answers) = (cases(&input), answers(&output));
     std::thread::scope(|scope| {
         for first in 0..4 {
             let (cases, answers) = (&cases, &answers);

@@ -16,7 +16,7 @@ use Rattle.sheet.specs.View.{View}
 use Rattle.chains.specs.Vocabulary.{pieceCount}
 use Rattle.chains.specs.Listed.{mostPieces, zeros, Listed, Earlier, Before, shorter, as-long, Follows, Last, Starts, nothing, listed, chain, refused, Answered, next, none, not-listed}
 use Rattle.chains.specs.Places.{step, mayEnd}
-use Rattle.chains.specs.Way.{reached, least, lastRaised, pieceAt, built, longerFrom, longer, raised, following, isStart}
+use Rattle.chains.specs.Way.{reached, least, lastRaised, pieceAt, built, longerFrom, longer, raised, following, isStart, nextOf}
 use Rattle.chains.specs.declared.Chain.{Chain}
 use Rattle.chains.specs.declared.place.Place.{Place}
 use Rattle.chains.specs.declared.place.Place.the-variants.{Start}
@@ -248,13 +248,24 @@ pub outcome-answered : {v w : List ℕ} → Started v → Outcome v w → Answer
 outcome-answered s (followed f) = next (starts s) f
 outcome-answered {v} s (ended e l) = subst (λ (x : List ℕ). Answered v (chain x)) (sym e) (none (starts s) l)
 
-pub answered : {b : Bool} {r : Chain} (v : List ℕ) → b ≡ isStart v → b ≡ true → r ≡ chain (following v) → Answered v r
-answered v e t f =
-    let s = started v (sym e ∙ t) in
-    rw f (outcome-answered s (following-outcome v s))
+answered : (v : List ℕ) (b : Bool) → isStart v ≡ b → Answered v (pick b (chain (following v)) refused)
+answered v true e = let s = started v e in outcome-answered s (following-outcome v s)
+answered v false e = not-listed (λ s. false≢true (sym e ∙ is-start s))
 
-pub answered-no : {b : Bool} {r : Chain} (v : List ℕ) → b ≡ isStart v → b ≡ false → r ≡ refused → Answered v r
-answered-no v e t f = rw f (not-listed (λ s. false≢true (sym t ∙ (e ∙ is-start s))))
+pub next-answered : (v : List ℕ) → Answered v (nextOf v)
+unfolding nextOf
+next-answered v = answered v (isStart v) refl
+
+pub next-by : {b : Bool} {r : Chain} (v : List ℕ) → b ≡ isStart v → b ≡ true → r ≡ chain (following v) → r ≡ nextOf v
+unfolding nextOf
+next-by v e t f = rw (← e, t) f
+
+pub next-no : {b : Bool} {r : Chain} (v : List ℕ) → b ≡ isStart v → b ≡ false → r ≡ refused → r ≡ nextOf v
+unfolding nextOf
+next-no v e t f = rw (← e, t) f
+
+pub both : {r : Chain} (v : List ℕ) → r ≡ nextOf v → (r ≡ nextOf v) × Answered v r
+both v e = (e, subst (λ (c : Chain). Answered v c) (sym e) (next-answered v))
 
 -- for those who read an answer: the count is within the pieces, and each piece is one of the vocabulary
 pub count-fits : {v : List ℕ} {c : Chain} → Answered v c → c .count ≤ mostPieces

@@ -7,8 +7,9 @@ use lib.Dec.{ltb, eqb}
 use lib.ListN.{length, getD}
 use Rattle.text.specs.Choice.{pick}
 use Rattle.chains.specs.Vocabulary.{pieceCount}
-use Rattle.chains.specs.Listed.{mostPieces}
+use Rattle.chains.specs.Listed.{mostPieces, chain, refused}
 use Rattle.chains.specs.Places.{step, mayEnd}
+use Rattle.chains.specs.declared.Chain.{Chain}
 use Rattle.chains.specs.declared.place.Place.{Place}
 use Rattle.chains.specs.declared.place.Place.the-variants.{Start}
 
@@ -67,3 +68,7 @@ following v =
 -- may the list be gone on with from here?
 unfoldable pub isStart : List ℕ → Bool
 isStart v = pick (eqb (length v) 0) true (pick (ltb mostPieces (length v)) false (mayEnd (reached Start v) 0))
+
+-- the whole answer; that it is what Listed.antt asks for is `next-answered` (proofs/NextLaws.antt)
+unfoldable pub nextOf : List ℕ → Chain
+nextOf v = pick (isStart v) (chain (following v)) refused

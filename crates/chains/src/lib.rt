@@ -1,7 +1,6 @@
 // Document 02, §13: every chain of one to four conditions of at most fifteen tokens over the vocabulary, one after the other (specs/Listed.antt).
 mod place;
 
-use crate::place::MOST_PIECES;
 use crate::place::Place;
 ghost use mathlib.Core.Path.{_≡_};
 ghost use Prim.Native.Nat.{_≤_};
@@ -10,8 +9,11 @@ ghost use lib.ListN.{length};
 ghost use Rattle.text.specs.Choice.{pick};
 ghost use Rattle.chains.specs.Vocabulary.{pieceCount};
 ghost use Rattle.chains.specs.Listed.{mostPieces, chain, refused, Answered};
-ghost use Rattle.chains.specs.Way.{reached, least, lastRaised, pieceAt, built, longer, following, isStart};
+ghost use Rattle.chains.specs.Way.{reached, least, lastRaised, pieceAt, built, longer, following, isStart, nextOf};
 ghost use Rattle.chains.specs.declared.place.Place.the-variants.{Start};
+
+// The longest chain.
+pub const MOST_PIECES: usize = 15;
 
 // A sequence of `count` pieces, those past the count 0; no pieces if none follows; or a refusal's number.
 pub struct Chain {
@@ -166,7 +168,8 @@ fn refused() -> Chain
 
 // "Given no tokens, the generator yields the first; given one listed, the next, or that none follows."
 pub fn next(v: &[u8]) -> Chain
-    ensures { λ r. ⌜ Answered (now (v .entry)) r ⌝ }
+    ensures chain { λ r. ⌜ r ≡ nextOf (now (v .entry)) ⌝ }
+    ensures listed { λ r. ⌜ Answered (now (v .entry)) r ⌝ }
 {
     if is_start(v) {
         return following(v);

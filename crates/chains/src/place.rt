@@ -1,4 +1,5 @@
 // Where in a chain of conditions a sequence of pieces has come to, and what may follow there (specs/Places.antt).
+use crate::MOST_PIECES;
 ghost use mathlib.Core.Path.{_≡_};
 ghost use lib.Dec.{eqb};
 ghost use Rattle.text.specs.Choice.{pick};
@@ -83,9 +84,6 @@ const MINUS: u8 = 22;
 
 // How many there are.
 pub const PIECE_COUNT: u8 = 23;
-
-// The longest chain.
-pub const MOST_PIECES: usize = 15;
 
 // The place behind a piece that may stand there, and else another.
 fn one(piece: u8, wanted: u8, to: Place, other: Place) -> Place

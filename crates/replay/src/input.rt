@@ -53,7 +53,7 @@ pub fn number(stop: u8) -> u64 {
 }
 
 // Are these the next bytes of the input? It is read up to the first that differs.
-fn follows(expected: &[u8]) -> bool {
+pub fn follows(expected: &[u8]) -> bool {
     let mut i = 0;
     while i < expected.len() {
         if next_byte() != expected[i] {

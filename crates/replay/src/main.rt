@@ -1,4 +1,5 @@
 // The replay program: reads cases and calls, hands each to the reader, and writes one answer for each. docs/REPLAY.md has its format.
+mod chain;
 mod forms;
 mod input;
 mod layout;
@@ -193,7 +194,7 @@ fn rest_of_call() -> bool {
     })
 }
 
-// What follows the first word; false where that is neither `case ` nor `call `.
+// What follows the first word; false where that is none of `case `, `call ` and `next `.
 fn rest(first: &[u8]) -> bool {
     if text::part::same(first, b"case ") {
         return rest_of_case();
@@ -201,10 +202,13 @@ fn rest(first: &[u8]) -> bool {
     if text::part::same(first, b"call ") {
         return rest_of_call();
     }
+    if text::part::same(first, b"next ") {
+        return chain::rest();
+    }
     false
 }
 
-// One case or call; false at the end of the input, and where it is neither.
+// One case, call or chain; false at the end of the input, and where it is none of them.
 fn one_case() -> bool {
     let mut first = [0u8; 5];
     if io::read_full(0, &mut first) == 0 {

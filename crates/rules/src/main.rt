@@ -1,4 +1,5 @@
 // The program `rules`: checks a rule against a name sheet, for whoever writes the two. `rules help` says how it is called.
+mod chain_list;
 mod checking;
 mod diagnose;
 mod expected;
@@ -39,6 +40,7 @@ fn usage() {
 
   rules check RULES SHEET   reads the rule in the file RULES with the name sheet in the file SHEET
   rules tokens RULES        lists the words, numbers and signs of the rule
+  rules chains              lists every short chain of conditions, one a line
   rules help                prints this
 
 Options of check stand before its files:
@@ -55,6 +57,11 @@ Options of check stand before its files:
   --topics FILE   counts the mqtt topics in FILE, one a line, as those of earlier rules; otherwise there are none. A new
                   topic is refused if eight others or more are named already. The lines are taken as they come, empty
                   ones aside: a CR at the end of a line belongs to its topic. FILE has at most 16,384 bytes
+
+chains is for comparing readers. It takes no files and prints the 636 chains of one to four conditions, joined by `and`,
+that are accepted and have at most fifteen words, numbers and signs, all of these:
+lamp sun time is in on off up down sunrise sunset level and 0 63 64 ( ) . .. == + -
+Shorter ones come first, then they follow the order of this line, word by word.
 
 check prints each trigger and each condition in plain words, or one refusal: its place, what stands there, what
 belongs there, and a way out. The last line begins with `accepted`, or with `refused` and the refusal's number; if the
@@ -73,10 +80,11 @@ fn bad_arguments(wrong: u32) {
 3 there is no such option; before the name of a file that begins with a dash write ./
 4 behind --party, as behind --primary, stands a number from 0 to 255 without leading zeros
 5 an option is given twice
-6 --archive and --shop do not go together";
+6 --archive and --shop do not go together
+7 nothing stands behind chains";
     out::entry(table, wrong);
     out::bytes(
-        b"\nusage: rules check [--archive | --shop] [--party P] [--primary A] [--topics FILE] RULES SHEET | rules tokens RULES | rules help\nrefused: bad arguments\n",
+        b"\nusage: rules check [--archive | --shop] [--party P] [--primary A] [--topics FILE] RULES SHEET | rules tokens RULES | rules chains | rules help\nrefused: bad arguments\n",
     );
 }
 
@@ -112,6 +120,14 @@ fn list(count: usize) {
     bad_arguments(2);
 }
 
+fn chains(count: usize) {
+    if count == 2 {
+        chain_list::run();
+        return;
+    }
+    bad_arguments(7);
+}
+
 // Runs a command of a call with so many arguments, its own name and the command among them.
 fn run(command: &[u8], count: usize) {
     if is_help(command) {
@@ -120,6 +136,10 @@ fn run(command: &[u8], count: usize) {
     }
     if text::part::same(command, b"tokens") {
         list(count);
+        return;
+    }
+    if text::part::same(command, b"chains") {
+        chains(count);
         return;
     }
     if !text::part::same(command, b"check") {

@@ -1,2 +1,3 @@
+mod ChainLaws
 mod NumberLaws
 mod RoomLaws

@@ -1,5 +1,5 @@
--- No answer of the whole call has the number `noRoom`: the result of `tergyosul_read`, of `tergyosul_read_archive` or of `tergyosul_read_shop` is that
--- number just where there is no room.
+-- No answer has the number `noRoom`: the result of `tergyosul_read`, of `tergyosul_read_archive`, of `tergyosul_read_shop` or of `tergyosul_next_chain`
+-- is that number just where there is no room.
 use Prim.Native.Nat.{ℕ, _<_, _≤_}
 use native.Mathlib.Omega.{arith}
 use mathlib.Core.Path.{_≡_, refl}
@@ -26,7 +26,29 @@ use Rattle.language.proofs.RefusalLaws.{call-refuses}
 use Rattle.language.specs.Section.{Lists}
 use Rattle.language.specs.Read.{parsed, lexedFrom, byPrimary, byText, bySheet, Outcome, readOf}
 use Rattle.flat.specs.Flat.{answerWords}
+use Rattle.chains.specs.Listed.{chain, refused}
+use Rattle.chains.specs.Way.{following, isStart, nextOf}
+use Rattle.tergyosul.specs.Chains.{chainAnswerWords}
 use Rattle.tergyosul.specs.Room.{noRoom, byRoom}
+
+-- "No refusal has this number."
+alone : (needed : ℕ) (answer : List ℕ) (n : ℕ) → n < noRoom → byRoom needed answer noRoom n ≡ noRoom → length answer < needed
+unfolding byRoom
+alone needed answer n known e = by (ltb (length answer) needed) refl e
+  where
+    by : (b : Bool) → ltb (length answer) needed ≡ b → pick b noRoom n ≡ noRoom → length answer < needed
+    by true p q = ltb-true _ _ p
+    by false p q = absurd (omega arith)
+
+-- the generator says 0 or 67
+chain-known : (b : Bool) (w : List ℕ) → pick b (chain w) refused .number < noRoom
+unfolding chain refused
+chain-known true w = omega arith
+chain-known false w = omega arith
+
+pub no-chain-alone : (v answer : List ℕ) → byRoom chainAnswerWords answer noRoom (nextOf v .number) ≡ noRoom → length answer < chainAnswerWords
+unfolding nextOf
+no-chain-alone v answer e = alone chainAnswerWords answer _ (chain-known (isStart v) (following v)) e
 
 -- the last number of a call that reads a text is 66
 abbrev Known : ℕ → Type 0
@@ -83,13 +105,6 @@ module _ (call : Call) (text sheet lent words : List ℕ) where
       either (ltb mostBytes (length text)) (record { answer = refusedWith 1 0 0 0; buffer = words }) _ first
       (either (ltb (length words) leastWords) (record { answer = refusedWith 2 0 0 0; buffer = words }) _ second (sheet-known (ownPrimary call sheet) (sheetCheck sheet)))
 
-  -- "No refusal has this number."
   pub no-room-alone : (answer : List ℕ) → byRoom answerWords answer noRoom (readOf call text sheet lent words .answer .number) ≡ noRoom →
       length answer < answerWords
-  unfolding byRoom
-  no-room-alone answer e = by (ltb (length answer) answerWords) refl e
-    where
-      by : (b : Bool) → ltb (length answer) answerWords ≡ b → pick b noRoom (readOf call text sheet lent words .answer .number) ≡ noRoom →
-          length answer < answerWords
-      by true p q = ltb-true _ _ p
-      by false p q = let known = read-known in absurd (omega arith)
+  no-room-alone answer e = alone answerWords answer _ (let known = read-known in omega arith) e

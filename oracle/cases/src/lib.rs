@@ -1,8 +1,10 @@
 //! A case of the replay format (docs/REPLAY.md): what one call of the reader is given.
 
+mod chain;
 mod lines;
 mod settings;
 
+pub use chain::{pieces, write_start, written, Start, MOST_PIECES, VOCABULARY};
 pub use lines::{fields, lines};
 pub use settings::{own_primary, Habit, Settings};
 
@@ -109,6 +111,8 @@ pub struct Lexing {
 #[derive(Debug)]
 pub enum Next {
     Case(Case),
+    /// A `next` line (document 02 §13).
+    Chain(Start),
     End,
     /// The input is not in the replay format.
     Bad,
@@ -168,9 +172,11 @@ pub fn read_case(input: &mut impl BufRead) -> io::Result<Next> {
     if input.read_until(b'\n', &mut line)? == 0 {
         return Ok(Next::End);
     }
-    let Some(Header { mut case, text, sheet, topics }) = std::str::from_utf8(&line).ok().and_then(header) else {
-        return Ok(Next::Bad);
-    };
+    let Ok(line) = std::str::from_utf8(&line) else { return Ok(Next::Bad) };
+    if let ["next", id, size, count] = line.trim_end_matches('\n').split(' ').collect::<Vec<_>>()[..] {
+        return chain::read(input, id, size, count);
+    }
+    let Some(Header { mut case, text, sheet, topics }) = header(line) else { return Ok(Next::Bad) };
     let Some(text) = body(input, text)? else { return Ok(Next::Bad) };
     let Some(sheet) = body(input, sheet)? else { return Ok(Next::Bad) };
     (case.text, case.sheet) = (text, sheet);
@@ -203,11 +209,17 @@ pub fn write_case(out: &mut impl Write, case: &Case) -> io::Result<()> {
     Ok(())
 }
 
-/// Answers every case of `input` on `out`, as the replay format orders it.
-pub fn replay(input: &mut impl BufRead, out: &mut impl Write, answer: impl Fn(&Case) -> String) -> io::Result<()> {
+/// Answers every case of `input` and every start of a chain on `out`, as the replay format orders it.
+pub fn replay(
+    input: &mut impl BufRead,
+    out: &mut impl Write,
+    answer: impl Fn(&Case) -> String,
+    next: impl Fn(&Start) -> String,
+) -> io::Result<()> {
     loop {
         match read_case(input)? {
             Next::Case(case) => out.write_all(answer(&case).as_bytes())?,
+            Next::Chain(start) => out.write_all(next(&start).as_bytes())?,
             Next::End => return Ok(()),
             Next::Bad => return out.write_all(b"bad input\n"),
         }

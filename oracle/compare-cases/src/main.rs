@@ -123,8 +123,9 @@ fn store(options: &Options, chosen: &[Case], input: &str, output: &str, readers:
     if !part(options, readers, &plan(options, &again, chosen.len() as u64), &mut Coverage::default())? {
         return Ok(false);
     }
-    vectors::write(chosen, input, output, readers.second)?;
-    println!("{} cases written", chosen.len());
+    let starts = generate::chains::starts(second::chains());
+    vectors::write(chosen, &starts, input, output, readers.second)?;
+    println!("{} cases written, and {} starts of chains", chosen.len(), starts.len());
     let short = vectors::short_of(chosen, readers.second);
     if !short.is_empty() {
         println!("too few cases for: {}", short.join(", "));

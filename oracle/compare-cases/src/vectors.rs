@@ -2,7 +2,7 @@
 
 use crate::features::{feature_count, feature_name, Features};
 use crate::readers::{guarded, Reader};
-use cases::{read_case, write_case, Case, Next};
+use cases::{read_case, write_case, write_start, Case, Next, Start};
 use std::collections::HashMap;
 use std::fs::File;
 use std::io::{self, BufReader, BufWriter, Write};
@@ -136,13 +136,14 @@ pub fn choose(want: usize, scan: u64, make: &dyn Fn(u64) -> Case, landmarks: Vec
     chosen
 }
 
-/// The cases of a file of replay input.
+/// The cases of a file of replay input. The starts of chains behind them are left out: they are made anew when cases are written.
 pub fn stored(input: &str) -> io::Result<Vec<Case>> {
     let mut file = BufReader::new(File::open(input)?);
     let mut cases = Vec::new();
     loop {
         match read_case(&mut file)? {
             Next::Case(case) => cases.push(case),
+            Next::Chain(_) => {}
             Next::End => return Ok(cases),
             Next::Bad => return Err(io::Error::other(format!("{input} is no replay input"))),
         }
@@ -174,12 +175,19 @@ pub fn short_of(cases: &[Case], second: Reader) -> Vec<String> {
     (0..counts.len()).filter(|&feature| counts[feature] < at_least(feature)).map(feature_name).collect()
 }
 
-/// Writes the cases as replay input to one file and the second reader's answers to the other.
-pub fn write(cases: &[Case], input: &str, output: &str, second: Reader) -> io::Result<()> {
+/// Writes the cases as replay input to one file and the second reader's answers to the other; behind them the starts of chains
+/// (document 02 §13), numbered on.
+pub fn write(cases: &[Case], starts: &[Start], input: &str, output: &str, second: Reader) -> io::Result<()> {
     let (mut to_input, mut to_output) = (BufWriter::new(File::create(input)?), BufWriter::new(File::create(output)?));
     for case in cases {
         write_case(&mut to_input, case)?;
         to_output.write_all(guarded(second, case).as_bytes())?;
+    }
+    let first = cases.last().map_or(1, |last| last.id + 1);
+    for (start, id) in starts.iter().zip(first..) {
+        let start = Start { id, ..start.clone() };
+        write_start(&mut to_input, &start)?;
+        to_output.write_all(second::next(&start).as_bytes())?;
     }
     to_input.flush()?;
     to_output.flush()

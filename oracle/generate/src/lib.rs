@@ -2,6 +2,7 @@
 //! that have landed, good, slightly wrong and broken, each made from a seed and an index alone.
 
 mod arguments;
+pub mod chains;
 mod damage;
 pub mod durations;
 mod exhaustive;

@@ -4,6 +4,7 @@
 pub mod agree;
 pub mod coverage;
 pub mod inputs;
+pub mod next_chain;
 pub mod short;
 pub mod texts;
 pub mod whole;

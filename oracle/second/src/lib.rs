@@ -2,6 +2,7 @@
 //! documents alone, for the comparison runs.
 
 mod buffer;
+mod chains;
 mod conditions;
 mod durations;
 mod lexer;
@@ -16,6 +17,8 @@ mod sheet;
 mod topics;
 mod triggers;
 mod values;
+
+pub use chains::{chains, next};
 
 use buffer::Buffer;
 use cases::{Case, Habit, Lexing, LEAST_WORDS};

@@ -1,5 +1,5 @@
 use borrow.Author.Needs.{needs}
-use Rattle.chains.proofs.NextLaws.{start-short, answered, answered-no}
+use Rattle.chains.proofs.NextLaws.{start-short, next-by, next-no, both}
 use Rattle.chains.proofs.next.Statement.{statement}
 use Rattle.chains.proofs.next.Tie as tie
 
@@ -9,6 +9,6 @@ next-spec =
     (tie.spec
     (λ c κs. search needs)
     (λ c κs. search (needs, start-short))
-    (λ c. search (needs, answered))
+    (λ c. both _ (search (needs, next-by)))
     (λ c κs. search needs)
-    (λ c. search (needs, answered-no)))
+    (λ c. both _ (search (needs, next-no))))
