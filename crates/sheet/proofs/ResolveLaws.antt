@@ -9,7 +9,7 @@ use lib.ListN.{length, drop, length-append}
 use lib.Dec.{ltb, eqb}
 use borrow.Author.Tests.{ltb-false, le-ltb, eq-eqb, ne-eqb, eqb-true, not-true, not-false}
 use Rattle.text.specs.Choice.{pick}
-use Rattle.text.specs.Part.{partOf, sameBytes, Same}
+use Rattle.text.specs.Part.{partOf, sameBytes}
 use Rattle.text.specs.Place.{counted}
 use Rattle.text.proofs.PlaceRules.{count-on}
 use Rattle.text.proofs.Tests.{picked, pick-same, both, told-yes, told-no, steps}
@@ -302,12 +302,12 @@ unfolding lineTally
 by-line own kind name scope t l asked was h = rw (sym asked ∙ was) h
 
 pub name-yes : {A : Type 0} (written name : List ℕ) (a b : A) {w : List ℕ} {r : Bool} {x : A} →
-    Same w name r → w ≡ written → r ≡ true → x ≡ a → x ≡ pick (sameBytes written name) a b
-name-yes written name a b s e h g = rw (← e, ← (s .equals), h) g
+    r ≡ sameBytes w name → w ≡ written → r ≡ true → x ≡ a → x ≡ pick (sameBytes written name) a b
+name-yes written name a b s e h g = rw (← e, ← s, h) g
 
 pub name-no : {A : Type 0} (written name : List ℕ) (a b : A) {w : List ℕ} {r : Bool} {x : A} →
-    Same w name r → w ≡ written → r ≡ false → x ≡ b → x ≡ pick (sameBytes written name) a b
-name-no written name a b s e h g = rw (← e, ← (s .equals), h) g
+    r ≡ sameBytes w name → w ≡ written → r ≡ false → x ≡ b → x ≡ pick (sameBytes written name) a b
+name-no written name a b s e h g = rw (← e, ← s, h) g
 
 -- a callee's answer r of which the code asks whether it is no
 pub not-told-no : {A : Type 0} {r : Bool} (t : Bool) (a b : A) {x : A} → r ≡ t → not r ≡ true → x ≡ b → x ≡ pick t a b

@@ -13,7 +13,7 @@ use borrow.Author.Tests.{ltb-true, ltb-false, leb-true, eqb-false}
 use Rattle.bytes.specs.Bytes.{indexOf}
 use Rattle.text.specs.Choice.{pick}
 use Rattle.text.specs.Literal.{ascii}
-use Rattle.text.specs.Part.{partOf, sameBytes, Same}
+use Rattle.text.specs.Part.{partOf, sameBytes}
 use Rattle.text.proofs.Tests.{picked}
 use Rattle.text.proofs.PartLaws.{same-refl, same-eq, same-by}
 use Rattle.text.specs.Find.{firstAt}
@@ -188,11 +188,11 @@ module _ (l name : List ℕ) where
   unfolding endsWith
   ends-short h =
       let e : length l - length name ≡ 0 = omega arith in
-      rw e (same-by l name false (λ k. absurd (false≢true k)) (λ k. absurd (omega (arith, ap length k))) .equals)
+      rw e (same-by l name false (λ k. absurd (false≢true k)) (λ k. absurd (omega (arith, ap length k))))
 
-  pub ends-compared : {start : ℕ} {r : Bool} → start ≡ length l - length name → Same (take (length l - start) (drop start l)) name r → r ≡ endsWith l name
+  pub ends-compared : {start : ℕ} {r : Bool} → start ≡ length l - length name → r ≡ sameBytes (take (length l - start) (drop start l)) name → r ≡ endsWith l name
   unfolding endsWith
-  ends-compared {start} e s = rw (← e, ← (take-all (length l - start) (drop start l) (simp length-drop (omega arith)))) (s .equals)
+  ends-compared {start} e s = rw (← e, ← (take-all (length l - start) (drop start l) (simp length-drop (omega arith)))) s
 
 -- where a line ends with a comma and the name, the code finds both
 abbrev pub Ends : List ℕ → List ℕ → Type 0

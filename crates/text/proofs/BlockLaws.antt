@@ -34,16 +34,16 @@ pub not-or : (t u : Bool) → not (t || u) ≡ pick t false (not u)
 not-or true u = refl
 not-or false u = refl
 
-not-or-last : (t u : Bool) → not (t || u) ≡ pick (not t) (pick (not u) true false) false
+pub not-or-last : (t u : Bool) → not (t || u) ≡ pick (not t) (pick (not u) true false) false
 not-or-last true u = refl
 not-or-last false true = refl
 not-or-last false false = refl
 
-pick-true : (t : Bool) → t ≡ pick t true false
+pub pick-true : (t : Bool) → t ≡ pick t true false
 pick-true true = refl
 pick-true false = refl
 
-pick-pick : (t u v : Bool) → pick t (pick u v false) false ≡ pick (pick t u false) v false
+pub pick-pick : (t u v : Bool) → pick t (pick u v false) false ≡ pick (pick t u false) v false
 pick-pick true u v = refl
 pick-pick false u v = refl
 

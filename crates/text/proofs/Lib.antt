@@ -13,4 +13,5 @@ pub mod PartLaws
 pub mod FindLaws
 pub mod SplitLaws
 pub mod BlockLaws
+pub mod SameLaws
 pub mod Examples

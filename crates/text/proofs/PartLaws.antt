@@ -8,7 +8,7 @@ use lib.ListN.{length, take, drop, length-drop, drop-of-length-le}
 use lib.Seq.{take-all, take-nil}
 use lib.Dec.{eqb}
 use borrow.Author.Tests.{eq-eqb, eqb-true}
-use Rattle.text.specs.Part.{partOf, sameBytes, Same}
+use Rattle.text.specs.Part.{partOf, sameBytes}
 use Rattle.text.proofs.Tests.{both}
 
 -- a part that ends where it starts, or starts past the end, is empty
@@ -52,7 +52,6 @@ differ-by a b true e f = f (same-eq a b e)
 differ-by a b false e f = refl
 
 -- an answer that is yes exactly for equal rows is the comparison's
-pub same-by : (a b : List ℕ) (r : Bool) → (r ≡ true → a ≡ b) → (a ≡ b → r ≡ true) → Same a b r
-same-by a b true f g =
-    record { equals = sym (subst (λ (x : List ℕ). sameBytes a x ≡ true) (f refl) (same-refl a)); yes = f; only = g }
-same-by a b false f g = record { equals = differ-by a b (sameBytes a b) refl g; yes = f; only = g }
+pub same-by : (a b : List ℕ) (r : Bool) → (r ≡ true → a ≡ b) → (a ≡ b → r ≡ true) → r ≡ sameBytes a b
+same-by a b true f g = sym (subst (λ (x : List ℕ). sameBytes a x ≡ true) (f refl) (same-refl a))
+same-by a b false f g = differ-by a b (sameBytes a b) refl g

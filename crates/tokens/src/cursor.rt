@@ -117,7 +117,7 @@ impl Cursor {
     {
         let i = self.index;
         if record::kind(words, i) == kind::WORD {
-            return text::part::same(bytes(text, words, i), word);
+            return text::part::each_same(bytes(text, words, i), word);
         }
         false
     }

@@ -10,8 +10,9 @@ use lib.ListN.{length, getD, set, length-set, length-append}
 use lib.Seq.{getD-set-same, getD-set-other}
 use lib.Dec.{ltb}
 use borrow.Author.Tests.{lt-ltb, ltb-true, ltb-false, not-true, not-false}
-use Rattle.text.specs.Part.{partOf, Same}
+use Rattle.text.specs.Part.{partOf, sameBytes}
 use Rattle.text.proofs.Tests.{picked}
+use Rattle.text.proofs.PartLaws.{same-eq}
 use Rattle.topics.specs.Topics.{has, different, mostTopics}
 use Rattle.topics.specs.Ranges.{noRange, noRanges, withRange, withName, withTopic, topicBy, rangeIn, nameIn, firstIn, inUse, topicsIn}
 use Rattle.model.specs.declared.Name.{Name}
@@ -52,15 +53,15 @@ module _ (s : List ℕ) (ranges : Ranges) where
     unfolding firstIn rangeIn
     first-on = rw (add-one, read)
 
-    module _ (topic : List ℕ) {r : Bool} (said : Same p topic r) where
+    module _ (topic : List ℕ) {r : Bool} (said : r ≡ sameBytes p topic) where
       pub found : (n : ℕ) → i < n → r ≡ true → true ≡ has topic (firstIn s ranges n)
       found n l h =
           sym (first-more topic (i + 1) n (omega arith)
-          (rw first-on (has-right topic (firstIn s ranges i) (p ∷ []) (rw (said .yes h) (has-here topic [])))))
+          (rw first-on (has-right topic (firstIn s ranges i) (p ∷ []) (rw (same-eq p topic (sym said ∙ h)) (has-here topic [])))))
 
       pub passed : has topic (firstIn s ranges i) ≡ false → r ≡ false → has topic (firstIn s ranges (i + 1)) ≡ false
       unfolding has
-      passed o h = rw (first-on, has-append topic (firstIn s ranges i) (p ∷ []), o, ← said .equals, h)
+      passed o h = rw (first-on, has-append topic (firstIn s ranges i) (p ∷ []), o, ← said, h)
 
     -- and how many different ones there are with it
     module _ {r : Bool} (said : r ≡ has p (firstIn s ranges i)) {count : ℕ} (counted : count ≡ different (firstIn s ranges i)) where

@@ -14,4 +14,4 @@ ends-with-spec =
     (λ c. search needs)
     (λ c. search needs)
     (λ c κs. search needs)
-    (λ c. ends-compared _ _ refl (c .same .ensures)))
+    (λ c. ends-compared _ _ refl (c .same .ensures .0)))

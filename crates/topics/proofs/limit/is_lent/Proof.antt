@@ -1,4 +1,4 @@
-use mathlib.Core.Path.{_≡_, refl}
+use mathlib.Core.Path.{_≡_, _∙_, refl, sym}
 use mathlib.Core.Bool.{Bool, true, false}
 use mathlib.Core.List.{List}
 use mathlib.Core.Logic.{⊎-elim}
@@ -7,8 +7,9 @@ use lib.ListN.{length, drop}
 use lib.Dec.{eqb}
 use borrow.Author.Needs.{needs}
 use borrow.Author.Tests.{eqb-true, eqb-false}
-use Rattle.text.specs.Part.{partOf, Same}
+use Rattle.text.specs.Part.{partOf, sameBytes}
 use Rattle.text.specs.Find.{firstAt}
+use Rattle.text.proofs.PartLaws.{same-eq}
 use Rattle.text.proofs.SplitLaws.{less-left, next-fits}
 use Rattle.topics.specs.Topics.{lentTopics, has}
 use Rattle.topics.proofs.DifferentLaws.{told, has-here}
@@ -27,10 +28,10 @@ module _ (lent topic : List ℕ) (at : ℕ) {start : Bool} (i : has topic (lentT
   none h = rw (lent-end lent at h) at i
 
   module _ (h : at < length lent) {end : ℕ} (e : end ≡ firstAt 0x0A lent at) {p : List ℕ} (q : p ≡ partOf lent at end) {r : Bool}
-      (said : Same p topic r) where
+      (said : r ≡ sameBytes p topic) where
     yes : (length topic ≡ 0 → ⊥) → r ≡ true → true ≡ start
     yes f k =
-        let d : p ≡ topic = said .yes k in
+        let d : p ≡ topic = same-eq p topic (sym said ∙ k) in
         rw (lent-line lent at h e q (rw d f), d, has-here topic _) at i
 
     on : r ≡ false → has topic (lentTopics (drop (end + 1) lent)) ≡ start
@@ -38,7 +39,7 @@ module _ (lent topic : List ℕ) (at : ℕ) {start : Bool} (i : has topic (lentT
     on k =
         ⊎-elim
         (λ t. rw (lent-empty lent at h e q (eqb-true (length p) 0 t)) at i)
-        (λ t. rw (lent-line lent at h e q (eqb-false (length p) 0 t), ← said .equals, k) at i)
+        (λ t. rw (lent-line lent at h e q (eqb-false (length p) 0 t), ← said, k) at i)
         (told (eqb (length p) 0))
 
 -- the topic is among the lent ones from here if it is among all

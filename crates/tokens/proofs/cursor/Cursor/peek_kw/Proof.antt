@@ -12,5 +12,5 @@ peek-kw-spec =
     (λ c κs. search needs)
     (λ c κs. search needs)
     (λ c κs. search needs)
-    (λ c. word-same _ _ _ (c .before .before .before .kind .ensures) (c .before .before .if1 .taken) (c .before .bytes .ensures) (c .same .ensures .equals))
+    (λ c. word-same _ _ _ (c .before .before .before .kind .ensures) (c .before .before .if1 .taken) (c .before .bytes .ensures) (c .each-same .ensures))
     (λ c. word-none _ _ _ (c .before .kind .ensures) (c .if1 .left)))
