@@ -66,6 +66,8 @@ enum tergyosul_record {
  *             2, SUN, OFFSET                       a solar event with an offset
  *   SUN       1 sunrise, 2 sunset
  *   OFFSET    milliseconds, of 32 bits in two's complement
+ *   DAYS      one word, the days of a set          the sum of 1 for mon, 2 for tue, 4 for wed, 8 for thu, 16 for fri,
+ *                                                  32 for sat and 64 for sun; never 0
  *   WAY       1 above, 2 below
  *   CMP       1 ==, 2 !=, 3 >=, 4 <=, 5 >, 6 <
  *   VALUE     kind, reading, a, b, c, low, high    seven words
@@ -105,8 +107,8 @@ enum tergyosul_trigger {
     TERGYOSUL_INPUT_POSITION_CHANGE = 4,              /* INPUT */
     TERGYOSUL_INPUT_DEVICE_POWER_CYCLED = 5,          /* REF */
     TERGYOSUL_INPUT_DEVICE_MANUAL_CONFIG_CHANGED = 6, /* REF */
-    TERGYOSUL_AT_TIME = 7,                            /* minutes since midnight */
-    TERGYOSUL_AT_SOLAR = 8,                           /* SUN OFFSET */
+    TERGYOSUL_AT_TIME = 7,                            /* minutes since midnight, DAYS */
+    TERGYOSUL_AT_SOLAR = 8,                           /* SUN OFFSET DAYS */
     TERGYOSUL_EVERY = 9,                              /* milliseconds */
     TERGYOSUL_LAMP_TURNS = 10,                        /* REF, 1 on 2 off */
     TERGYOSUL_LAMP_LEVEL_CROSS = 11,                  /* REF WAY threshold */
@@ -138,7 +140,20 @@ enum tergyosul_condition {
     TERGYOSUL_IF_LAST_FIRED_OLDER_THAN = 12, /* NAME milliseconds */
     TERGYOSUL_IF_TIMER_RUNNING = 13,         /* NAME */
     TERGYOSUL_IF_CONTROLLER_ACTIVE = 14,
-    TERGYOSUL_IF_VAR_COMPARE = 15            /* NAME CMP OPERAND */
+    TERGYOSUL_IF_VAR_COMPARE = 15,           /* NAME CMP OPERAND */
+    TERGYOSUL_IF_DAY_IN = 16                 /* DAYS */
+};
+
+/* The days of the week, as they are summed up in DAYS. */
+enum tergyosul_day {
+    TERGYOSUL_MON = 1,
+    TERGYOSUL_TUE = 2,
+    TERGYOSUL_WED = 4,
+    TERGYOSUL_THU = 8,
+    TERGYOSUL_FRI = 16,
+    TERGYOSUL_SAT = 32,
+    TERGYOSUL_SUN = 64,
+    TERGYOSUL_EVERY_DAY = 127 /* all seven, as of a time without `on` */
 };
 
 /* The codes of input events. */
@@ -226,7 +241,9 @@ enum tergyosul_piece {
  *
  * The result is 0, or the number of the refusal, or TERGYOSUL_NO_ROOM. The whole answer goes to answer, and the records
  * of the tokens go to words, as above; with refusals 1 to 4 and 53 these are left as they are. An argument of `input(`
- * that sets one already set is refused with 63, at its first token.
+ * that sets one already set is refused with 63, at its first token. Where a day is read, a word that is none of mon, tue,
+ * wed, thu, fri, sat and sun is refused with 50, at that word. `is` behind the topic of an `mqtt` trigger is refused with
+ * 40, at that `is`: no other form gets this number.
  */
 uint32_t tergyosul_read(const uint8_t *text, size_t text_length,
                         const uint8_t *sheet, size_t sheet_length,

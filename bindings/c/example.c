@@ -33,8 +33,11 @@ static const char *const triggers[] = {
 static const char *const conditions[] = {
     "none", "time in range", "sun is", "lamp is", "lamp level", "lamp cct", "group state", "input occupancy",
     "input light", "hcl state", "device online", "rule enabled", "last fired older than", "timer running",
-    "controller active", "var compared"
+    "controller active", "var compared", "day in"
 };
+
+/* The days' words, in the order of their bits. */
+static const char *const days[] = { "mon", "tue", "wed", "thu", "fri", "sat", "sun" };
 
 /* Reads a whole file. The result is 0 if it cannot be read or has more than ROOM bytes; nothing is cut off. */
 static int load(const char *path, uint8_t *bytes, size_t *length)
@@ -106,6 +109,29 @@ static void put_solar(const uint32_t *solar)
     }
 }
 
+/* DAYS, with commas between. */
+static void put_days(uint32_t set)
+{
+    const char *comma = "";
+    size_t i;
+
+    for (i = 0; i < sizeof days / sizeof days[0]; i++) {
+        if ((set >> i & 1) != 0) {
+            printf("%s%s", comma, days[i]);
+            comma = ", ";
+        }
+    }
+}
+
+/* DAYS behind a time, where they are fewer than seven. */
+static void put_on(uint32_t set)
+{
+    if (set != TERGYOSUL_EVERY_DAY) {
+        printf(" on ");
+        put_days(set);
+    }
+}
+
 static void put_bound(const uint32_t *bound)
 {
     if (bound[0] == 1) {
@@ -137,9 +163,11 @@ static void put_trigger(const uint32_t *row)
     switch (row[0]) {
     case TERGYOSUL_AT_TIME:
         put_time(row[1]);
+        put_on(row[2]);
         break;
     case TERGYOSUL_AT_SOLAR:
         put_solar(row + 1);
+        put_on(row[3]);
         break;
     case TERGYOSUL_EVERY:
         printf("%lu ms", (unsigned long)row[1]);
@@ -206,6 +234,9 @@ static void put_condition(const uint32_t *row)
         break;
     case TERGYOSUL_IF_CONTROLLER_ACTIVE:
         printf("nothing beside it");
+        break;
+    case TERGYOSUL_IF_DAY_IN:
+        put_days(row[1]);
         break;
     default:
         printf("words");

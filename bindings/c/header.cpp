@@ -21,6 +21,18 @@ std::uint32_t triggers_of(const std::vector<std::uint8_t> &text, const std::vect
     return number == 0 ? answer[4] : 0;
 }
 
+bool opens_on(const std::uint32_t *trigger, tergyosul_day day)
+{
+    switch (trigger[0]) {
+    case TERGYOSUL_AT_TIME:
+        return (trigger[2] & day) != 0;
+    case TERGYOSUL_AT_SOLAR:
+        return (trigger[3] & day) != 0;
+    default:
+        return false;
+    }
+}
+
 std::uint32_t first_piece_behind(const std::vector<std::uint8_t> &chain)
 {
     static const std::uint8_t nothing = 0;

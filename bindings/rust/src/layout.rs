@@ -4,7 +4,7 @@
 //! one comes, another library was linked, and the reading stops with a panic.
 
 use crate::rule::*;
-use crate::Refusal;
+use crate::{Days, Refusal};
 
 const ROW: usize = 12;
 pub const ANSWER_WORDS: usize = 108;
@@ -159,6 +159,11 @@ impl<'a> Words<'a> {
         }
     }
 
+    /// One day at least.
+    fn days(&mut self) -> Days {
+        Days::of_sum(self.word()).unwrap_or_else(|| broken())
+    }
+
     fn crossing(&mut self) -> Crossing {
         self.choice(&[Crossing::Above, Crossing::Below])
     }
@@ -249,8 +254,8 @@ impl<'a> Words<'a> {
             4 => Trigger::InputPositionChange(self.input()),
             5 => Trigger::InputDevicePowerCycled(self.reference()),
             6 => Trigger::InputDeviceManualConfigChanged(self.reference()),
-            7 => Trigger::AtTime(self.word()),
-            8 => Trigger::AtSolar(self.solar_event(), self.signed()),
+            7 => Trigger::AtTime(self.word(), self.days()),
+            8 => Trigger::AtSolar(self.solar_event(), self.signed(), self.days()),
             9 => Trigger::Every(self.word()),
             10 => Trigger::LampTurns(self.reference(), self.power()),
             11 => Trigger::LampLevelCross(self.reference(), self.crossing(), self.word()),
@@ -285,6 +290,7 @@ impl<'a> Words<'a> {
             13 => Condition::TimerRunning(self.name()),
             14 => Condition::ControllerActive,
             15 => Condition::VarCompare(self.name(), self.comparison(), self.operand()),
+            16 => Condition::DayIn(self.days()),
             _ => broken(),
         }
     }

@@ -38,6 +38,7 @@ extern crate std;
 mod boundary;
 mod call;
 mod chain;
+mod days;
 mod layout;
 mod party;
 mod refusal;
@@ -48,6 +49,7 @@ mod token;
 
 pub use call::Call;
 pub use chain::{chains, next_chain, Chain, MOST_PIECES, VOCABULARY};
+pub use days::{Day, Days};
 pub use party::{sheet_primary, Party};
 pub use refusal::Refusal;
 pub use rule::{
@@ -69,7 +71,7 @@ const LEX_WORDS: usize = 4;
 /// The records of the tokens go to `words`, from which [`tokens`] takes them; with refusals 1 to 4 and 53 these are left as
 /// they are. What the words hold before plays no part. A primary adapter that is not the party's is refused with 53, and an
 /// argument of `input(` that sets one already set with 63. A new topic where eight or more are lent or named earlier is
-/// refused with 66.
+/// refused with 66. Where a day is read, a word that is no [`Day`]'s is refused with 50.
 ///
 /// # Panics
 ///

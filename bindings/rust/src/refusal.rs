@@ -6,7 +6,7 @@ use core::fmt;
 /// A refusal: its number, its place and a detail. `docs/MANUAL.md` has an example of each and says what to do.
 #[derive(Debug, Clone, Copy, PartialEq, Eq, Hash)]
 pub struct Refusal {
-    /// 1 to 4, 10 to 13, 15 to 41, 53, 57 to 59 or 63 to 67.
+    /// 1 to 4, 10 to 13, 15 to 41, 50, 53, 57 to 59 or 63 to 67.
     pub number: u32,
     /// From 1, or 0 where there is no place. For number 3 it is the sheet's line, for the others the text's.
     pub line: u32,
@@ -53,8 +53,9 @@ impl Refusal {
             37 => "there are more than four triggers",
             38 => "there is no trigger",
             39 => "there are more than four conditions",
-            40 => "this form is left out",
+            40 => "`is` behind a topic is left out",
             41 => "the text goes on after the rule",
+            50 => "the word is no day",
             53 => "the primary adapter is not the party's",
             57 => "the shop profile takes a name here, no number",
             58 => "the shop profile has no broadcast",

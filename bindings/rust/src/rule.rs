@@ -1,5 +1,6 @@
 //! What a rule says, with a case for each kind and code of `include/tergyosul.h`.
 
+use crate::Days;
 use core::fmt;
 
 /// How many triggers a rule has at most, and how many conditions.
@@ -273,10 +274,10 @@ pub enum Trigger {
     InputPositionChange(InputRef),
     InputDevicePowerCycled(Ref),
     InputDeviceManualConfigChanged(Ref),
-    /// In minutes since midnight.
-    AtTime(u32),
-    /// With an offset in milliseconds.
-    AtSolar(SolarEvent, i32),
+    /// In minutes since midnight, on these days.
+    AtTime(u32, Days),
+    /// With an offset in milliseconds, on these days.
+    AtSolar(SolarEvent, i32, Days),
     /// In milliseconds.
     Every(u32),
     LampTurns(Ref, Power),
@@ -316,4 +317,6 @@ pub enum Condition {
     TimerRunning(Name),
     ControllerActive,
     VarCompare(Name, Comparison, Operand),
+    /// The day is one of these.
+    DayIn(Days),
 }

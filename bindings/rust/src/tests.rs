@@ -3,7 +3,7 @@
 use crate::rule::*;
 use crate::chain::{decoded, CHAIN_WORDS};
 use crate::{boundary, layout, lex, read, read_archive, tokens, with_room};
-use crate::{Call, Party, Refusal, Token, LEX_WORDS, MOST_PIECES, RECORD_WORDS, TOKEN_WORDS, VOCABULARY};
+use crate::{Call, Day, Days, Party, Refusal, Token, LEX_WORDS, MOST_PIECES, RECORD_WORDS, TOKEN_WORDS, VOCABULARY};
 use std::format;
 use std::string::{String, ToString};
 use std::vec::Vec;
@@ -26,6 +26,10 @@ fn door(instance: u32) -> InputRef {
 
 fn name(start: u32, length: u32) -> Name {
     Name { start, length }
+}
+
+fn days(of: &[Day]) -> Days {
+    of.iter().copied().collect()
 }
 
 fn answer(text: &str) -> [u32; layout::ANSWER_WORDS] {
@@ -92,7 +96,9 @@ fn condition(text: &str, words: &[u32]) -> Condition {
 fn every_trigger() {
     use Trigger::*;
     let minus = |ms: i64| (ms + (1 << 32)) as u32;
-    let forms: [(&str, &str, &[u32], Trigger); 32] = [
+    let weekend = days(&[Day::Sat, Day::Sun]);
+    let every_day = Days::EVERY_DAY;
+    let forms: [(&str, &str, &[u32], Trigger); 34] = [
         (
             "INPUT_EVENT",
             "input(\"Door\", 3) is press",
@@ -143,10 +149,17 @@ fn every_trigger() {
             &[6, 0, 5],
             InputDeviceManualConfigChanged(DOOR),
         ),
-        ("AT_TIME", "at 21:30", &[7, 1290], AtTime(1290)),
-        ("AT_SOLAR", "at sunrise + 90s", &[8, 1, 90_000], AtSolar(SolarEvent::Sunrise, 90_000)),
-        ("AT_SOLAR", "at sunset - 30m", &[8, 2, minus(-1_800_000)], AtSolar(SolarEvent::Sunset, -1_800_000)),
-        ("AT_SOLAR", "at sunset - 2147483.648s", &[8, 2, 1 << 31], AtSolar(SolarEvent::Sunset, i32::MIN)),
+        ("AT_TIME", "at 21:30", &[7, 1290, 127], AtTime(1290, every_day)),
+        ("AT_TIME", "at 0:00 on sun", &[7, 0, 64], AtTime(0, days(&[Day::Sun]))),
+        ("AT_SOLAR", "at sunrise + 90s", &[8, 1, 90_000, 127], AtSolar(SolarEvent::Sunrise, 90_000, every_day)),
+        ("AT_SOLAR", "at sunrise on mon", &[8, 1, 0, 1], AtSolar(SolarEvent::Sunrise, 0, days(&[Day::Mon]))),
+        (
+            "AT_SOLAR",
+            "at sunset - 30m on sat, sun",
+            &[8, 2, minus(-1_800_000), 96],
+            AtSolar(SolarEvent::Sunset, -1_800_000, weekend),
+        ),
+        ("AT_SOLAR", "at sunset - 2147483.648s", &[8, 2, 1 << 31, 127], AtSolar(SolarEvent::Sunset, i32::MIN, every_day)),
         ("EVERY", "every 4294967.295s", &[9, u32::MAX], Every(u32::MAX)),
         ("LAMP_TURNS", "lamp(\"Till\") turns on", &[10, 1, 7, 1], LampTurns(TILL, Power::On)),
         ("LAMP_TURNS", "lamp(\"Till\") turns off", &[10, 1, 7, 2], LampTurns(TILL, Power::Off)),
@@ -238,7 +251,7 @@ fn every_condition() {
     let clock = TimeBound::Clock;
     let later = TimeBound::Solar(SolarEvent::Sunrise, 1_800_000);
     let earlier = TimeBound::Solar(SolarEvent::Sunset, -1);
-    let forms: [(&str, &str, &[u32], Condition); 24] = [
+    let forms: [(&str, &str, &[u32], Condition); 26] = [
         (
             "IF_TIME_IN_RANGE",
             "time in 21:00..sunrise + 30m",
@@ -328,11 +341,42 @@ fn every_condition() {
             &[15, IF + 5, 5, 6, 1, 0, 0, 0, 0, u32::MAX - 4, u32::MAX],
             VarCompare(name(IF + 5, 5), Comparison::Lt, Operand::Number(Value::Literal(-5))),
         ),
+        ("IF_DAY_IN", "day in fri..mon", &[16, 113], DayIn(days(&[Day::Mon, Day::Fri, Day::Sat, Day::Sun]))),
+        ("IF_DAY_IN", "day in mon..sun", &[16, 127], DayIn(Days::EVERY_DAY)),
     ];
     for (_, text, words, expected) in &forms {
         assert_eq!(condition(text, words), *expected, "{text}");
     }
     assert_covers("tergyosul_condition", &forms.map(|(constant, _, words, _)| (constant, words[0])));
+}
+
+/// Each day alone, and all seven: the header's sums, and the words that are shown.
+#[test]
+fn every_day() {
+    let mut sums: Vec<(String, u32)> = Vec::new();
+    for (day, place) in Day::ALL.iter().zip(0..) {
+        let read = condition(&format!("day in {day}"), &[16, 1 << place]);
+        assert_eq!(read, Condition::DayIn(days(&[*day])));
+        sums.push((day.word().to_uppercase(), 1 << place));
+    }
+    sums.push(("EVERY_DAY".to_string(), 127));
+    assert_eq!(sums, constants("tergyosul_day"));
+}
+
+/// What a word of the layout can be as a set, and how a set is asked and shown.
+#[test]
+fn a_set_of_days() {
+    for sum in 1..=127 {
+        let set = Days::of_sum(sum).expect("a sum of days");
+        let listed: Vec<Day> = set.iter().collect();
+        assert_eq!(listed.iter().map(|day| 1 << *day as u32).sum::<u32>(), sum);
+        assert!(listed.is_sorted() && Day::ALL.iter().all(|day| set.contains(*day) == listed.contains(day)));
+        assert_eq!(listed.iter().rev().chain(&listed).copied().collect::<Days>(), set);
+        let text = listed.iter().map(|day| day.word()).collect::<Vec<_>>().join(", ");
+        assert_eq!((set.to_string(), format!("{set:?}")), (text.clone(), format!("Days({text})")));
+    }
+    assert_eq!([0, 128, 255, 256, 257, u32::MAX].map(Days::of_sum), [None; 6]);
+    assert_eq!(Days::of_sum(127), Some(Days::EVERY_DAY));
 }
 
 #[test]
@@ -413,7 +457,8 @@ fn four_of_each_in_their_order() {
     let text = b"when http trigger when controller starts when at 0:01 when every 1s \
 if sun is up and sun is down and controller is active and device(9) is online";
     let rule = read(text, SHEET, ZERO, &mut [0; TOKEN_WORDS]).unwrap();
-    let triggers = [Trigger::HttpTrigger, Trigger::ControllerStarts, Trigger::AtTime(1), Trigger::Every(1_000)];
+    let at = Trigger::AtTime(1, Days::EVERY_DAY);
+    let triggers = [Trigger::HttpTrigger, Trigger::ControllerStarts, at, Trigger::Every(1_000)];
     let conditions = [
         Condition::SunIs(Sun::Up),
         Condition::SunIs(Sun::Down),
@@ -595,12 +640,12 @@ fn lexing_refuses_what_is_not_utf8() {
 #[test]
 fn every_refusal_has_its_own_meaning() {
     let refusal = |number| Refusal { number, line: 2, column: 3, detail: 4 };
-    let known = |number| matches!(number, 1..=4 | 10..=13 | 15..=41 | 53 | 57..=59 | 63..=67);
+    let known = |number| matches!(number, 1..=4 | 10..=13 | 15..=41 | 50 | 53 | 57..=59 | 63..=67);
     let mut meanings: Vec<&str> = (0..100).filter(|&n| known(n)).map(|n| refusal(n).meaning()).collect();
-    assert_eq!(meanings.len(), 44);
+    assert_eq!(meanings.len(), 45);
     meanings.sort();
     meanings.dedup();
-    assert_eq!(meanings.len(), 44);
+    assert_eq!(meanings.len(), 45);
     let unknown = refusal(0).meaning();
     assert!((0..100).all(|n| known(n) != (refusal(n).meaning() == unknown)));
     assert_eq!(refusal(3).to_string(), "sheet line 2: the sheet is not well formed (refusal 3)");
@@ -627,7 +672,7 @@ fn a_broken_answer_is_seen() {
     };
     let broken = Err("the answer does not follow its layout");
     assert!(decoded(&[(4, 1), (12, 20)]).is_ok());
-    let cases: [&[(usize, u32)]; 16] = [
+    let cases: [&[(usize, u32)]; 21] = [
         &[(4, 5)],
         &[(5, u32::MAX)],
         &[(4, 1)],
@@ -638,7 +683,12 @@ fn a_broken_answer_is_seen() {
         &[(4, 1), (12, 1), (13, 3)],
         &[(4, 1), (12, 1), (13, 1), (17, 14)],
         &[(4, 1), (12, 15), (13, 4)],
-        &[(5, 1), (60, 16)],
+        &[(4, 1), (12, 7), (14, 0)],
+        &[(4, 1), (12, 7), (14, 128)],
+        &[(4, 1), (12, 8), (13, 1), (15, 0)],
+        &[(5, 1), (60, 17)],
+        &[(5, 1), (60, 16), (61, 0)],
+        &[(5, 1), (60, 16), (61, 256)],
         &[(5, 1), (60, 1), (61, 3)],
         &[(5, 1), (60, 4), (63, 7)],
         &[(5, 1), (60, 4), (63, 1), (64, 4)],

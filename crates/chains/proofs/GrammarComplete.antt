@@ -202,6 +202,7 @@ module _ (v : List ℕ) (pieces : Each (λ q. q < pieceCount) v) where
     condition-good (Condition-of.time-in w q a p b) rest =
         word TIME tt refl w
         (word IN tt refl q (bound-good refl refl a (sign (POINTS ∷ []) refl tt (refl, tt) p (bound-good refl refl b (rest .end)))))
+    condition-good (Condition-of.day-in w q h) rest = absurd (no-word tt w)
     condition-good (Condition-of.group-state w h q) rest = absurd (no-word tt w)
     condition-good (Condition-of.hcl-state w p q f h) rest = absurd (no-word tt w)
     condition-good (Condition-of.lamp-is w h is (the-first q)) rest =

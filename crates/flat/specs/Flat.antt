@@ -1,6 +1,6 @@
 -- An answer as words, "nine rows of twelve words" (include/tergyosul.h). Row 0 says how the reading went; four rows of triggers and four of conditions
 -- follow. The first word of an entry is its kind. Kinds count from 1 in the order of the Rust's lists PARSED_TRIGGER_KINDS and PARSED_CONDITION_KINDS,
--- from which DayIn is left out: it is not read.
+-- but for DayIn (document 02, §1), which has the number behind the other conditions.
 use Prim.Native.Nat.{ℕ, _+_, _*_, _/_}
 use mathlib.Core.List.{List, [], _∷_, _++_}
 use lib.ListN.{length, getD}
@@ -13,6 +13,7 @@ use Rattle.model.specs.declared.Answer.{Answer}
 use Rattle.model.specs.declared.Condition.{Condition}
 use Rattle.model.specs.declared.ConditionRow.{ConditionRow}
 use Rattle.model.specs.declared.Conditions.{Conditions}
+use Rattle.model.specs.declared.Days.{Days}
 use Rattle.model.specs.declared.Delta.{Delta}
 use Rattle.model.specs.declared.Event.{Event}
 use Rattle.model.specs.declared.InputRef.{InputRef}
@@ -30,7 +31,7 @@ use Rattle.model.specs.declared.Triggers.{Triggers}
 use Rattle.model.specs.declared.Value.{Value}
 use Rattle.flat.specs.Codes.{powerCode, occupancyCode, crossingCode, aggregateCode, onlineCode, overrideCode, sunCode, hclCode, solarCode, comparisonCode, lampReadingCode, groupReadingCode, inputReadingCode, timeReadingCode, sunReadingCode, eventReadingCode, varCode, lowWord, highWord, typeOrNone}
 
--- the parts of a row, in the order in which the header names them: REF, INPUT, NAME, SELECTOR, EVENT, TARGET, BOUND, VALUE, OPERAND
+-- the parts of a row, in the order in which the header names them: REF, INPUT, NAME, SELECTOR, EVENT, TARGET, BOUND, DAYS, VALUE, OPERAND
 
 abbrev pub refWords : Ref → List ℕ
 refWords r = r .adapter ∷ r .number ∷ []
@@ -71,6 +72,10 @@ unfoldable pub boundWords : TimeBound → List ℕ
 boundWords (TimeBound.Clock m) = 1 ∷ m ∷ 0 ∷ []
 boundWords (TimeBound.Solar e offset) = 2 ∷ solarCode e ∷ lowWord offset ∷ []
 
+-- "the sum of 1 for mon, 2 for tue, 4 for wed, 8 for thu, 16 for fri, 32 for sat and 64 for sun"
+abbrev pub daysWords : Days → List ℕ
+daysWords days = days .sum ∷ []
+
 -- "a code with the REF, INPUT or NAME beside it"
 unfoldable pub readingWords : Reading → List ℕ
 readingWords (Reading.Lamp r p) = lampReadingCode p ∷ r .adapter ∷ r .number ∷ 0 ∷ []
@@ -101,8 +106,8 @@ triggerWords (Trigger.InputLightCross r way n) = 3 ∷ inputWords r ++ crossingC
 triggerWords (Trigger.InputPositionChange r) = 4 ∷ inputWords r
 triggerWords (Trigger.InputDevicePowerCycled r) = 5 ∷ refWords r
 triggerWords (Trigger.InputDeviceManualConfigChanged r) = 6 ∷ refWords r
-triggerWords (Trigger.AtTime m) = 7 ∷ m ∷ []
-triggerWords (Trigger.AtSolar e offset) = 8 ∷ solarCode e ∷ lowWord offset ∷ []
+triggerWords (Trigger.AtTime m days) = 7 ∷ m ∷ daysWords days
+triggerWords (Trigger.AtSolar e offset days) = 8 ∷ solarCode e ∷ lowWord offset ∷ daysWords days
 triggerWords (Trigger.Every ms) = 9 ∷ ms ∷ []
 triggerWords (Trigger.LampTurns r to) = 10 ∷ refWords r ++ powerCode to ∷ []
 triggerWords (Trigger.LampLevelCross r way n) = 11 ∷ refWords r ++ crossingCode way ∷ n ∷ []
@@ -137,6 +142,7 @@ conditionWords (Condition.LastFiredOlderThan n ms) = 12 ∷ nameWords n ++ ms �
 conditionWords (Condition.TimerRunning n) = 13 ∷ nameWords n
 conditionWords Condition.ControllerActive = 14 ∷ []
 conditionWords (Condition.VarCompare n c v) = 15 ∷ nameWords n ++ comparisonCode c ∷ operandWords v
+conditionWords (Condition.DayIn days) = 16 ∷ daysWords days
 
 -- the rows
 

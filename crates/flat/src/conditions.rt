@@ -119,5 +119,6 @@ pub fn condition_row(x: Condition) -> Row
         Condition::TimerRunning(n) => return rows::of_name(13, n, 0),
         Condition::ControllerActive => return rows::plain(14, 0, 0),
         Condition::VarCompare(n, c, o) => return var_row(n, c, o),
+        Condition::DayIn(days) => return rows::plain(16, days.sum, 0),
     }
 }

@@ -3,11 +3,13 @@ use crate::codes;
 use crate::parts;
 use crate::rows;
 use crate::rows::Row;
+use model::Days;
 use model::Event;
 use model::Selector;
+use model::SolarEvent;
 use model::Trigger;
 ghost use mathlib.Core.Path.{_≡_};
-ghost use Rattle.model.specs.declared.Trigger.the-variants.{InputEvent};
+ghost use Rattle.model.specs.declared.Trigger.the-variants.{InputEvent, AtSolar};
 ghost use Rattle.flat.specs.Flat.{triggerWords, wholeRow};
 
 fn event_row(s: Selector, e: Event) -> Row
@@ -16,6 +18,14 @@ fn event_row(s: Selector, e: Event) -> Row
     let f = parts::selector(s);
     let g = parts::event(e);
     [1, f.0, f.1, f.2, f.3, g.0, g.1, 0, 0, 0, 0, 0]
+}
+
+fn solar_row(e: SolarEvent, ms: i32, days: Days) -> Row
+    ensures { λ w. ⌜ w ≡ wholeRow (triggerWords (AtSolar e ms days)) ⌝ }
+{
+    let code = codes::solar_event(e);
+    let offset = codes::offset(ms);
+    [8, code, offset, days.sum, 0, 0, 0, 0, 0, 0, 0, 0]
 }
 
 pub fn trigger_row(x: Trigger) -> Row
@@ -28,8 +38,8 @@ pub fn trigger_row(x: Trigger) -> Row
         Trigger::InputPositionChange(r) => return rows::of_input(4, r, 0, 0),
         Trigger::InputDevicePowerCycled(r) => return rows::of_ref(5, r, 0, 0),
         Trigger::InputDeviceManualConfigChanged(r) => return rows::of_ref(6, r, 0, 0),
-        Trigger::AtTime(m) => return rows::plain(7, m, 0),
-        Trigger::AtSolar(e, ms) => return rows::plain(8, codes::solar_event(e), codes::offset(ms)),
+        Trigger::AtTime(m, days) => return rows::plain(7, m, days.sum),
+        Trigger::AtSolar(e, ms, days) => return solar_row(e, ms, days),
         Trigger::Every(ms) => return rows::plain(9, ms, 0),
         Trigger::LampTurns(r, to) => return rows::of_ref(10, r, codes::power(to), 0),
         Trigger::LampLevelCross(r, way, n) => return rows::of_ref(11, r, codes::crossing(way), n),

@@ -25,14 +25,16 @@ use Rattle.model.specs.declared.Comparison.{Comparison}
 use Rattle.model.specs.declared.Hcl.{Hcl}
 use Rattle.model.specs.declared.Condition.{Condition}
 use Rattle.model.specs.declared.Condition.the-variants.{HclState, LastFiredOlderThan, RuleEnabled, TimerRunning}
+use Rattle.days.specs.Read.{daySet}
+use Rattle.days.proofs.GrammarSound.{day-set-sound}
 use Rattle.language.specs.Limits.{mostText}
 use Rattle.language.specs.Words.{namedPhrase, targetFor, propertyWord}
 use Rattle.language.specs.Timeval.{timeBound}
 use Rattle.language.specs.Expr.{valueAt}
 use Rattle.language.specs.Trigger.{powerOf, crossingOf, occupancyOf, aggregateOf}
-use Rattle.language.specs.Condition.{comparisonBy, comparisonAt, controllerCondition, timerCondition, ruleCondition, lastFiredCondition, deviceCondition, sunOf, sunCondition, timeTo, timeCondition, groupCondition, hclOf, hclCondition, lampPropertyOf, lampJudged, lampCompared, lampPoint, lampState, lampCondition, lightThan, inputState, inputCondition, textOperand, operandAt, varCompared, varCondition, conditionWords, conditionBy, conditionAt}
+use Rattle.language.specs.Condition.{comparisonBy, comparisonAt, controllerCondition, timerCondition, ruleCondition, lastFiredCondition, deviceCondition, sunOf, sunCondition, timeTo, timeCondition, dayCondition, groupCondition, hclOf, hclCondition, lampPropertyOf, lampJudged, lampCompared, lampPoint, lampState, lampCondition, lightThan, inputState, inputCondition, textOperand, operandAt, varCompared, varCondition, conditionWords, conditionBy, conditionAt}
 use Rattle.language.specs.grammar.Expr.{Value-of}
-use Rattle.language.specs.grammar.Condition.{Compared, eq, ne, ge, le, gt, lt, Level-cct, Enabled-overridden, Operand-of, text, value, Condition-of, controller-active, timer-running, rule-enabled, last-fired, device-online, sun-is, time-in, group-state, hcl-state, lamp-is, lamp-compare, input-occupancy, input-light, var-compare}
+use Rattle.language.specs.grammar.Condition.{Compared, eq, ne, ge, le, gt, lt, Level-cct, Enabled-overridden, Operand-of, text, value, Condition-of, controller-active, timer-running, rule-enabled, last-fired, device-online, sun-is, time-in, day-in, group-state, hcl-state, lamp-is, lamp-compare, input-occupancy, input-light, var-compare}
 use Rattle.language.proofs.WordLaws.{then-kind, then-word, then-phrase, perhaps-word, one-token, Named-phrase, named-phrase, named-sound, For-target, for-target, for-sound, Point-word, point-word, point-sound}
 use Rattle.language.proofs.TimeLaws.{bound-sound}
 use Rattle.language.proofs.ExprLaws.{value-sound}
@@ -120,6 +122,12 @@ module _ (t : ℕ → Tok) (view : View) (range : ℕ → Name) where
       bind-ok G (timeBound t k) _ (bound-sound t k)
       (λ start l from.
       then-kind t G 13 l _ (λ b m dots. bind-ok G (timeBound t m) _ (bound-sound t m) (λ end n to. time-in w v from dots to))))
+
+  day-sound : (fuel : ℕ) {i j : ℕ} → Word t (ascii "day") i j → Okay (Condition-of t view range i) (dayCondition t fuel j)
+  unfolding dayCondition
+  day-sound fuel {i} {j} w =
+      let G = Condition-of t view range i in
+      then-word t G (ascii "in") j _ (λ a k v. bind-ok G (daySet t fuel k) _ (day-set-sound t fuel k) (λ days l h. day-in w v h))
 
   group-state-sound : {i j : ℕ} → Word t (ascii "group") i j → Okay (Condition-of t view range i) (groupCondition t view j)
   unfolding groupCondition aggregateOf wordsIn split
@@ -233,7 +241,7 @@ module _ (t : ℕ → Tok) (view : View) (range : ℕ → Name) where
                         (λ j w. last-fired-sound w),
                         (
                           (λ j w. timer-sound w),
-                          ((λ j w. controller-sound w), ((λ j w. var-sound fuel w), ((λ j w. tt), tt))),
+                          ((λ j w. controller-sound w), ((λ j w. var-sound fuel w), ((λ j w. day-sound fuel w), tt))),
                         ),
                       ),
                     ),

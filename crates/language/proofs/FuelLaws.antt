@@ -1,4 +1,5 @@
--- A whole rule is answered alike with any count of arguments that is at least the number of its tokens: no ARGS runs out of it.
+-- A whole rule is answered alike with any count of arguments, or of days or ranges, that is at least the number of its tokens: neither ARGS nor a day
+-- set runs out of it.
 use Prim.Native.Nat.{ℕ, _≤_}
 use native.Mathlib.Omega.{arith}
 use mathlib.Core.Path.{_≡_, fun-ext}
@@ -9,12 +10,14 @@ use Rattle.sheet.specs.View.{View}
 use Rattle.references.specs.Args.{inputSelector, inputRef}
 use Rattle.references.proofs.ArgComplete.{no-token}
 use Rattle.references.proofs.FuelLaws.{selector-fuel, input-fuel}
+use Rattle.days.specs.Read.{daySet, onDays}
+use Rattle.days.proofs.FuelLaws.{day-set-fuel, on-days-fuel}
 use Rattle.model.specs.declared.Name.{Name}
 use Rattle.model.specs.declared.Condition.{Condition}
 use Rattle.tokens.specs.Result.{Res}
 use Rattle.language.specs.Expr.{inputReading, readingBy, readingAt, readValue, valueAt}
-use Rattle.language.specs.Trigger.{inputTrigger, triggerBy, triggerAt}
-use Rattle.language.specs.Condition.{lampCompared, lampPoint, lampState, lampCondition, lightThan, inputState, inputCondition, operandAt, varCompared, varCondition, conditionBy, conditionAt}
+use Rattle.language.specs.Trigger.{atBound, atTrigger, inputTrigger, triggerBy, triggerAt}
+use Rattle.language.specs.Condition.{dayCondition, lampCompared, lampPoint, lampState, lampCondition, lightThan, inputState, inputCondition, operandAt, varCompared, varCondition, conditionBy, conditionAt}
 use Rattle.language.specs.Section.{Topics, triggerNamed, whenSection, ifSection, ruleAt}
 use Rattle.language.specs.Range.{rangeOf}
 use Rattle.language.specs.Read.{topicsWith, ruleIn, onAccepted, anywhere, ruleOf}
@@ -28,17 +31,23 @@ module _ (t : ℕ → Tok) (view : View) (range : ℕ → Name) {n m k : ℕ} (e
   input : inputRef t view m ≡ inputRef t view k
   input = fun-ext (λ i. input-fuel t view end p q i)
 
+  day-set : daySet t m ≡ daySet t k
+  day-set = fun-ext (λ i. day-set-fuel t end p q i)
+
+  on-days : onDays t m ≡ onDays t k
+  on-days = fun-ext (λ i. on-days-fuel t end p q i)
+
   value : valueAt t view range m ≡ valueAt t view range k
   unfolding valueAt readValue readingAt readingBy inputReading
   value = fun-ext (λ i. rw (input))
 
   trigger : triggerAt t view range m ≡ triggerAt t view range k
-  unfolding triggerAt triggerBy inputTrigger
-  trigger = fun-ext (λ i. rw (selector))
+  unfolding triggerAt triggerBy atTrigger atBound inputTrigger
+  trigger = fun-ext (λ i. rw (selector, on-days))
 
   condition : conditionAt t view range m ≡ conditionAt t view range k
-  unfolding conditionAt conditionBy varCondition varCompared operandAt inputCondition inputState lightThan lampCondition lampState lampPoint lampCompared
-  condition = fun-ext (λ i. rw (input, value))
+  unfolding conditionAt conditionBy varCondition varCompared operandAt inputCondition inputState lightThan lampCondition lampState lampPoint lampCompared dayCondition
+  condition = fun-ext (λ i. rw (input, value, day-set))
 
   named : (topics : Topics) → triggerNamed t view range topics m ≡ triggerNamed t view range topics k
   unfolding triggerNamed

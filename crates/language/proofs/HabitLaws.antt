@@ -26,8 +26,8 @@ use Rattle.model.specs.Lists.{refusedWith}
 use Rattle.model.specs.declared.Ref.{Ref}
 use Rattle.model.specs.declared.Name.{Name}
 use Rattle.model.specs.declared.Selector.{Selector}
-use Rattle.model.specs.declared.TimeBound.{TimeBound}
-use Rattle.model.specs.declared.TimeBound.the-variants.{Clock, Solar}
+use Rattle.model.specs.declared.Days.{Days}
+use Rattle.days.specs.Read.{dayAt, lastDay, rangeAt, rangesFrom, daySet, onDays}
 use Rattle.model.specs.declared.Comparison.{Comparison}
 use Rattle.model.specs.declared.Value.{Value}
 use Rattle.model.specs.declared.Trigger.the-variants.{SceneRecalled}
@@ -39,7 +39,7 @@ use Rattle.language.specs.Words.{namedPhrase, targetFor, propertyWord}
 use Rattle.language.specs.Timeval.{offsetBound, offsetAt, withOffset, solarAt, timeBound}
 use Rattle.language.specs.Expr.{lampReading, groupReading, inputReading, timeReading, sunReading, eventReading, varReading, readingBy, readingAt, literalAt, deltaAt, withDelta, readValue, valueAt}
 use Rattle.language.specs.Trigger.{timerTrigger, ruleTrigger, controllerTrigger, httpTrigger, topicAt, mqttTrigger, everyTrigger, atBound, atTrigger, sceneClosed, sceneTrigger, deviceTrigger, groupTrigger, hclTrigger, levelCross, lampChange, lampTrigger, inputDeviceTrigger, rawData, rawEvent, eventAt, inputEvent, inputBecomes, lightCross, positionChange, propertyTrigger, pointTrigger, inputChange, inputTrigger, triggerBy, triggerAt}
-use Rattle.language.specs.Condition.{comparisonBy, comparisonAt, controllerCondition, timerCondition, ruleCondition, lastFiredCondition, deviceCondition, sunCondition, timeTo, timeCondition, groupCondition, hclCondition, lampJudged, lampCompared, lampPoint, lampState, lampCondition, lightThan, inputState, inputCondition, textOperand, operandAt, varCompared, varCondition, conditionBy, conditionAt}
+use Rattle.language.specs.Condition.{comparisonBy, comparisonAt, controllerCondition, timerCondition, ruleCondition, lastFiredCondition, deviceCondition, sunCondition, timeTo, timeCondition, dayCondition, groupCondition, hclCondition, lampJudged, lampCompared, lampPoint, lampState, lampCondition, lightThan, inputState, inputCondition, textOperand, operandAt, varCompared, varCondition, conditionBy, conditionAt}
 use Rattle.language.specs.Section.{Topics, Lists, repeated, triggerNamed, whenSection, ifSection, atEnd, ruleAt}
 use Rattle.language.specs.Read.{onAccepted, anywhere, ruleIn, ruleOf, topicsWith, parsed, Outcome, readOf, ruleCall, archiveCall}
 use Rattle.language.proofs.AskedLaws.{parsing, Asked, before, reached, asked}
@@ -104,10 +104,18 @@ module _ (t : ℕ → Tok) (calls : Calls) (range : ℕ → Name) (fuel : ℕ) w
   unfolding timeBound solarAt withOffset offsetAt offsetBound
   ends-bound i = search ends depth 8
 
-  ends-at-bound : (i : ℕ) (b : TimeBound) → Ends i (atBound t i b)
-  unfolding atBound
-  ends-at-bound i (Clock m) = search ends
-  ends-at-bound i (Solar event offset) = search ends
+  ends-ranges : (n : ℕ) (days : Days) (i : ℕ) → Ends i (rangesFrom t n days i)
+  unfolding rangesFrom rangeAt dayAt lastDay
+  ends-ranges zero days i = search ends
+  ends-ranges (suc n) days i = search (ends, ends-ranges n) depth 12
+
+  ends-day-set : (i : ℕ) → Ends i (daySet t fuel i)
+  unfolding daySet
+  ends-day-set i = search ends-ranges
+
+  ends-on-days : (i : ℕ) → Ends i (onDays t fuel i)
+  unfolding onDays
+  ends-on-days i = search (ends, ends-day-set)
 
   ends-input-change : (paren : ℕ) (s : Selector) (i : ℕ) → Ends i (inputChange t paren s i)
   unfolding inputChange inputEvent eventAt rawEvent rawData inputBecomes pointTrigger propertyTrigger lightCross positionChange
@@ -137,11 +145,11 @@ module _ (t : ℕ → Tok) (calls : Calls) (range : ℕ → Name) (fuel : ℕ) w
   compared-target-for i = search compared-references
 
   compared-trigger : Compares t calls (λ view i. triggerAt t view range fuel i)
-  unfolding triggerAt triggerBy atTrigger everyTrigger groupTrigger deviceTrigger hclTrigger timerTrigger controllerTrigger ruleTrigger httpTrigger
+  unfolding triggerAt triggerBy atTrigger atBound everyTrigger groupTrigger deviceTrigger hclTrigger timerTrigger controllerTrigger ruleTrigger httpTrigger
       mqttTrigger topicAt namedPhrase
   compared-trigger i =
       search
-      (compared-references, ends-bound, ends-at-bound, compared-input-trigger, compared-lamp-trigger, compared-scene-trigger, compared-target-for)
+      (compared-references, ends-bound, ends-on-days, compared-input-trigger, compared-lamp-trigger, compared-scene-trigger, compared-target-for)
       depth 24
 
   ends-comparison : (i : ℕ) → Ends i (comparisonAt t i)
@@ -166,10 +174,10 @@ module _ (t : ℕ → Tok) (calls : Calls) (range : ℕ → Name) (fuel : ℕ) w
 
   compared-condition : Compares t calls (λ view i. conditionAt t view range fuel i)
   unfolding conditionAt conditionBy controllerCondition timerCondition ruleCondition lastFiredCondition deviceCondition sunCondition timeTo
-      timeCondition groupCondition hclCondition namedPhrase
+      timeCondition dayCondition groupCondition hclCondition namedPhrase
   compared-condition i =
       search
-      (compared-references, ends-bound, compared-target-for, compared-lamp-condition, compared-input-condition, compared-var-condition)
+      (compared-references, ends-bound, ends-day-set, compared-target-for, compared-lamp-condition, compared-input-condition, compared-var-condition)
       depth 24
 
 compared-repeated : {S A : Type 0} (t : ℕ → Tok) (calls : Calls) (word : List ℕ) (number : ℕ) (form : View → S → ℕ → Res A) (after : S → A → S) →

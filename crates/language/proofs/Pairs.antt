@@ -12,7 +12,7 @@ use Rattle.model.specs.declared.SolarEvent.the-variants.{Sunset}
 use Rattle.model.specs.declared.Event.the-variants.{Press}
 use Rattle.model.specs.declared.Power.the-variants.{On}
 use Rattle.model.specs.declared.Trigger.{Trigger}
-use Rattle.model.specs.declared.Trigger.the-variants.{AtSolar, InputEvent, LampTurns}
+use Rattle.model.specs.declared.Trigger.the-variants.{AtTime, AtSolar, InputEvent, LampTurns}
 use Rattle.model.specs.declared.Answer.{Answer}
 use Rattle.text.specs.Place.{counted, lineFeeds, sinceLineFeed, lineAfter, columnAfter, after, stepOf, walked, judge, checkOf}
 use Rattle.text.specs.Utf8.{isAscii, sequenceLength, isTail, isSecond, two, three, four, sized, front, decodeAt, charsFrom, chars, rowEnd}
@@ -45,9 +45,13 @@ use Rattle.language.specs.Range.{rangeOf}
 use Rattle.language.specs.Words.{namedPhrase, targetFor, propertyWord, signed}
 use Rattle.language.specs.Timeval.{mostOffset, offsetBound, offsetAt, withOffset, solarEvent, solarAt, timeBound}
 use Rattle.language.specs.Expr.{lampProperty, lampReading, groupProperty, groupReading, inputProperty, inputReading, timeProperty, timeReading, sunProperty, sunReading, eventProperty, eventReading, varReading, readingBy, readingAt, literalAt, deltaAt, withDelta, readValue, valueAt}
-use Rattle.language.specs.Trigger.{powerOf, crossingOf, occupancyOf, aggregateOf, onlineOf, overrideOf, timerTrigger, ruleTrigger, controllerChange, controllerTrigger, httpTrigger, everyTrigger, atBound, atTrigger, sceneClosed, sceneTrigger, deviceTrigger, groupTrigger, hclTrigger, levelCross, lampChange, lampTrigger, inputDeviceChange, inputDeviceTrigger, rawData, rawEvent, eventOf, eventAt, inputEvent, inputBecomes, lightCross, positionChange, propertyTrigger, pointTrigger, inputChange, inputTrigger, triggerBy, triggerAt}
-use Rattle.language.specs.Condition.{comparisonBy, comparisonAt, controllerCondition, timerCondition, ruleCondition, lastFiredCondition, deviceCondition, sunOf, sunCondition, timeTo, timeCondition, groupCondition, hclOf, hclCondition, lampPropertyOf, lampJudged, lampCompared, lampPoint, lampState, lampCondition, lightThan, inputState, inputCondition, textOperand, operandAt, varCompared, varCondition, conditionBy, conditionAt}
+use Rattle.language.specs.Trigger.{powerOf, crossingOf, occupancyOf, aggregateOf, onlineOf, overrideOf, timerTrigger, ruleTrigger, controllerChange, controllerTrigger, httpTrigger, everyTrigger, atOn, atBound, atTrigger, sceneClosed, sceneTrigger, deviceTrigger, groupTrigger, hclTrigger, levelCross, lampChange, lampTrigger, inputDeviceChange, inputDeviceTrigger, rawData, rawEvent, eventOf, eventAt, inputEvent, inputBecomes, lightCross, positionChange, propertyTrigger, pointTrigger, inputChange, inputTrigger, triggerBy, triggerAt}
+use Rattle.language.specs.Condition.{comparisonBy, comparisonAt, controllerCondition, timerCondition, ruleCondition, lastFiredCondition, deviceCondition, sunOf, sunCondition, timeTo, timeCondition, dayCondition, groupCondition, hclOf, hclCondition, lampPropertyOf, lampJudged, lampCompared, lampPoint, lampState, lampCondition, lightThan, inputState, inputCondition, textOperand, operandAt, varCompared, varCondition, conditionBy, conditionAt}
 use Rattle.topics.specs.Topics.{fits}
+use Rattle.text.specs.Bits.{bitsFrom}
+use Rattle.model.specs.declared.Days.{Days}
+use Rattle.days.specs.Days.{forward, isBetween, isInAny, daysOf, hasDay, everyDay}
+use Rattle.days.specs.Read.{dayAt, lastDay, covers, getsDay, withRange, rangeAt, rangesFrom, noDay, daySet, onDays}
 use Rattle.language.specs.Topics.{topicName, topicOf}
 use Rattle.topics.specs.Ranges.{topicBy}
 use Rattle.language.specs.Section.{repeated, triggerNamed, whenSection, ifSection, atEnd, ruleAt}
@@ -91,6 +95,10 @@ one x = acceptedWith (x ∷ []) []
 on : ℕ → ℕ → Ref
 on adapter number = record { adapter = adapter; number = number }
 
+-- a set of days by the sum of its bits: 1 is Monday, 64 Sunday
+days : ℕ → Days
+days n = record { sum = n }
+
 table : List Row
 table =
     -- 8
@@ -100,7 +108,7 @@ table =
     ∷ ("when lamp(\"Aisle\", adapter=1) turns on" ⇒ one (LampTurns (on 1 4) On))
     ∷ ("when lamp(\"Till\", adapter=0) turns on" ⇒ refusedWith 32 1 11 1)
     -- 10
-    ∷ ("when at sunset - 2147483.648s" ⇒ one (AtSolar Sunset (negℤ (pos 2147483648))))
+    ∷ ("when at sunset - 2147483.648s" ⇒ one (AtSolar Sunset (negℤ (pos 2147483648)) (days 127)))
     ∷ ("when at sunset + 2147483.648s" ⇒ refusedWith 36 1 18 0)
     -- 11, from document 02 on the archive call's; the default call refuses the second `dev`
     ∷ ("when input(dev=3, dev=5, inst=0) is press" ⇒ refusedWith 63 1 19 0)
@@ -109,6 +117,12 @@ table =
     -- 12
     ∷ ("when controller starts if lamp(1).foo" ⇒ refusedWith 20 1 38 0)
     ∷ ("when controller starts if lamp(1).foo == 1" ⇒ refusedWith 21 1 35 0)
+    -- document 02, §1: `fri..mon` is four days; all seven however written are the set without `on`; a word that is no day
+    ∷ ("when at 7:05 on fri..mon" ⇒ one (AtTime 425 (days 113)))
+    ∷ ("when at sunset on mon" ⇒ one (AtSolar Sunset (pos 0) (days 1)))
+    ∷ ("when at 7:05 on tue..mon" ⇒ one (AtTime 425 (days 127)))
+    ∷ ("when at 7:05 on foo 5" ⇒ refusedWith 50 1 17 0)
+    ∷ ("when at 7:05 on mon, when http trigger" ⇒ refusedWith 50 1 22 0)
     ∷ []
 
 abbrev Holds : List Row → Type 0
@@ -116,5 +130,5 @@ Holds [] = Unit {0}
 Holds (r ∷ rs) = (readOf (r .call) (ascii (r .text)) S [] (zeros leastWords) .answer ≡ r .answer) × Holds rs
 
 pairs : Holds table
-unfolding indexOf indexAfter table _⇒_ _⇒ₐ_ line S zeros one on counted lineFeeds sinceLineFeed lineAfter columnAfter after stepOf walked judge checkOf isAscii sequenceLength isTail isSecond two three four sized front decodeAt charsFrom chars rowEnd whiteSpace among isWhite partOf sameBytes isDigit isAlpha isWordStart isWordPart split firstAt bytesOf tokens isWord isKind takeKind takeWord takeIn toTaken accepted unitOf boundedMs wholeMs amount recordOf lexFrom lexText answerFrom writtenFrom lexAnswer lexWords recordWords tokenLine tokenColumn capacity wordsOf written wordAt kindAt numberAt startAt lengthAt lineAt columnAt bytesAt isPlain passed triviaMode trivia quoted withDigit digits singleKind pairKind single punct string timeBy time decimal amountTo durationBy duration fractionAt fraction point tokens-numberAt number word tokenAt wordsIn position choiceBy choiceAt takeWords phraseAt headOf eitherAt pointChoice phraseChoice pointPhrase kindOf mostOf withoutReturn field rest hasComma digitsOn numeral isMark plain isName checkedRow readRow primaryOf adapterOf partyBy partyOf lineBy bareLine bareName lineOf nameOf isOwnerOf hasOwner mayFollow followingCheck isPrimary linesCheck sheetCheck entries isListing lists mayRepeat anyForm ownerBy ownerOf owns entriesOn seen ownPrimary isCandidate candidates isIn inScope elsewhere noneOf chosen pickNamed checkedName closedName quotedName nameOrId adapterNumber adapterAssign adapterClause scopeOrPrimary foundAt referred closeR openR reference lampRef groupRef deviceRef devName inputDeviceRef lampTarget groupTarget broadcastTarget lightTarget toIndex toName toScope toRef toTarget slotOf isNamed keySlot namedSlot unnamedSlot slotAt typeWord inputTypeValue deviceItem instanceItem groupItem typeItem adapterItem itemAt isDev isNumber isGroup isOn isSet isRepeat put noArgs argAt countWith argsFrom deviceInstance withInst withDev withGroup selected closeArgs inputSelector oneInstance inputRef toItem toArgs toSelector toInput slot lastShortAddress lastGroup lastScene lastLevel lastInstance lastInstanceGroup lastInstanceType lastEventInformation padded triggersOf conditionsOf acceptedWith refusedWith rangeOf namedPhrase targetFor propertyWord signed mostOffset offsetBound offsetAt withOffset solarEvent solarAt timeBound lampProperty lampReading groupProperty groupReading inputProperty inputReading timeProperty timeReading sunProperty sunReading eventProperty eventReading varReading readingBy readingAt literalAt deltaAt withDelta readValue valueAt powerOf crossingOf occupancyOf aggregateOf onlineOf overrideOf timerTrigger ruleTrigger controllerChange controllerTrigger httpTrigger everyTrigger atBound atTrigger sceneClosed sceneTrigger deviceTrigger groupTrigger hclTrigger levelCross lampChange lampTrigger inputDeviceChange inputDeviceTrigger rawData rawEvent eventOf eventAt inputEvent inputBecomes lightCross positionChange propertyTrigger pointTrigger inputChange inputTrigger triggerBy triggerAt comparisonBy comparisonAt controllerCondition timerCondition ruleCondition lastFiredCondition deviceCondition sunOf sunCondition timeTo timeCondition groupCondition hclOf hclCondition lampPropertyOf lampJudged lampCompared lampPoint lampState lampCondition lightThan inputState inputCondition textOperand operandAt varCompared varCondition conditionBy conditionAt fits topicName topicBy topicOf repeated triggerNamed whenSection ifSection atEnd ruleAt parsed onAccepted ruleOf lexedFrom byPrimary byText bySheet readOf
-pairs = (refl, (refl, (refl, (refl, (refl, (refl, (refl, (refl, (refl, (refl, (refl, tt)))))))))))
+unfolding indexOf indexAfter table _⇒_ _⇒ₐ_ line S zeros one on counted lineFeeds sinceLineFeed lineAfter columnAfter after stepOf walked judge checkOf isAscii sequenceLength isTail isSecond two three four sized front decodeAt charsFrom chars rowEnd whiteSpace among isWhite partOf sameBytes isDigit isAlpha isWordStart isWordPart split firstAt bytesOf tokens isWord isKind takeKind takeWord takeIn toTaken accepted unitOf boundedMs wholeMs amount recordOf lexFrom lexText answerFrom writtenFrom lexAnswer lexWords recordWords tokenLine tokenColumn capacity wordsOf written wordAt kindAt numberAt startAt lengthAt lineAt columnAt bytesAt isPlain passed triviaMode trivia quoted withDigit digits singleKind pairKind single punct string timeBy time decimal amountTo durationBy duration fractionAt fraction point tokens-numberAt number word tokenAt wordsIn position choiceBy choiceAt takeWords phraseAt headOf eitherAt pointChoice phraseChoice pointPhrase kindOf mostOf withoutReturn field rest hasComma digitsOn numeral isMark plain isName checkedRow readRow primaryOf adapterOf partyBy partyOf lineBy bareLine bareName lineOf nameOf isOwnerOf hasOwner mayFollow followingCheck isPrimary linesCheck sheetCheck entries isListing lists mayRepeat anyForm ownerBy ownerOf owns entriesOn seen ownPrimary isCandidate candidates isIn inScope elsewhere noneOf chosen pickNamed checkedName closedName quotedName nameOrId adapterNumber adapterAssign adapterClause scopeOrPrimary foundAt referred closeR openR reference lampRef groupRef deviceRef devName inputDeviceRef lampTarget groupTarget broadcastTarget lightTarget toIndex toName toScope toRef toTarget slotOf isNamed keySlot namedSlot unnamedSlot slotAt typeWord inputTypeValue deviceItem instanceItem groupItem typeItem adapterItem itemAt isDev isNumber isGroup isOn isSet isRepeat put noArgs argAt countWith argsFrom deviceInstance withInst withDev withGroup selected closeArgs inputSelector oneInstance inputRef toItem toArgs toSelector toInput slot lastShortAddress lastGroup lastScene lastLevel lastInstance lastInstanceGroup lastInstanceType lastEventInformation padded triggersOf conditionsOf acceptedWith refusedWith rangeOf namedPhrase targetFor propertyWord signed mostOffset offsetBound offsetAt withOffset solarEvent solarAt timeBound lampProperty lampReading groupProperty groupReading inputProperty inputReading timeProperty timeReading sunProperty sunReading eventProperty eventReading varReading readingBy readingAt literalAt deltaAt withDelta readValue valueAt powerOf crossingOf occupancyOf aggregateOf onlineOf overrideOf timerTrigger ruleTrigger controllerChange controllerTrigger httpTrigger everyTrigger atOn atBound atTrigger forward isBetween isInAny daysOf hasDay everyDay bitsFrom dayAt lastDay covers getsDay withRange rangeAt rangesFrom noDay daySet onDays days sceneClosed sceneTrigger deviceTrigger groupTrigger hclTrigger levelCross lampChange lampTrigger inputDeviceChange inputDeviceTrigger rawData rawEvent eventOf eventAt inputEvent inputBecomes lightCross positionChange propertyTrigger pointTrigger inputChange inputTrigger triggerBy triggerAt comparisonBy comparisonAt controllerCondition timerCondition ruleCondition lastFiredCondition deviceCondition sunOf sunCondition timeTo timeCondition dayCondition groupCondition hclOf hclCondition lampPropertyOf lampJudged lampCompared lampPoint lampState lampCondition lightThan inputState inputCondition textOperand operandAt varCompared varCondition conditionBy conditionAt fits topicName topicBy topicOf repeated triggerNamed whenSection ifSection atEnd ruleAt parsed onAccepted ruleOf lexedFrom byPrimary byText bySheet readOf
+pairs = (refl, (refl, (refl, (refl, (refl, (refl, (refl, (refl, (refl, (refl, (refl, (refl, (refl, (refl, (refl, (refl, tt))))))))))))))))

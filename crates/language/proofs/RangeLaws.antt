@@ -1,4 +1,4 @@
--- No reference in a reading is out of its kind's range, form by form.
+-- No reference and no day set in a reading is out of its kind's range, form by form.
 use Prim.Native.Nat.{ℕ, _≤_}
 use mathlib.Core.List.{List, [], _∷_}
 use Rattle.tokens.specs.Cursor.{Tok}
@@ -8,6 +8,7 @@ use Rattle.model.specs.Limits.{lastAdapter}
 use Rattle.sheet.specs.declared.Call.{Call}
 use Rattle.sheet.proofs.RangeLaws.{View-in-range, view-in}
 use Rattle.references.proofs.RangeLaws.{up-to-in, clause-in, on-adapter-in, lamp-in, group-in, device-in, input-device-in, target-in, args-in, one-instance-in}
+use Rattle.days.proofs.RangeLaws.{day-set-in, on-days-in}
 use Rattle.model.specs.declared.Name.{Name}
 use Rattle.model.specs.declared.Event.{Event}
 use Rattle.model.specs.declared.Reading.{Reading}
@@ -73,8 +74,8 @@ module _ {t : ℕ → Tok} {view : View} {range : ℕ → Name} (sees : View-in-
   trigger-in (Trigger-of.http-trigger w v) = tt
   trigger-in (Trigger-of.mqtt-message w a topic) = tt
   trigger-in (Trigger-of.every w d l) = tt
-  trigger-in (Trigger-of.at-time w b) = tt
-  trigger-in (Trigger-of.at-solar w b) = tt
+  trigger-in (Trigger-of.at-time w b d) = on-days-in d
+  trigger-in (Trigger-of.at-solar w b d) = on-days-in d
   trigger-in (Trigger-of.scene-recalled w a h c b v o) = (on-adapter-in sees (clause-in c) o, up-to-in h)
   trigger-in (Trigger-of.goes-offline w r p) = device-in sees r
   trigger-in (Trigger-of.comes-online w r p) = device-in sees r
@@ -98,6 +99,7 @@ module _ {t : ℕ → Tok} {view : View} {range : ℕ → Name} (sees : View-in-
   condition-in (Condition-of.device-online w r p) = device-in sees r
   condition-in (Condition-of.sun-is w p c) = tt
   condition-in (Condition-of.time-in w v a p b) = tt
+  condition-in (Condition-of.day-in w v h) = day-set-in h
   condition-in (Condition-of.group-state w r c) = group-in sees r
   condition-in (Condition-of.hcl-state w p c f h) = target-in sees h
   condition-in (Condition-of.lamp-is w r v c) = lamp-in sees r

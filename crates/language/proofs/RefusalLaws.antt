@@ -9,13 +9,13 @@ use Rattle.tokens.specs.Phrase.{choiceBy, choiceAt, takeWords, phraseAt, either
 use Rattle.sheet.specs.View.{View}
 use Rattle.references.proofs.NumberLaws.{isRefusal, Refuses, refusals}
 use Rattle.model.specs.declared.Name.{Name}
-use Rattle.model.specs.declared.TimeBound.{TimeBound}
-use Rattle.model.specs.declared.TimeBound.the-variants.{Clock, Solar}
+use Rattle.model.specs.declared.Days.{Days}
+use Rattle.days.specs.Read.{dayAt, lastDay, rangeAt, rangesFrom, daySet, onDays}
 use Rattle.language.specs.Words.{namedPhrase, targetFor, propertyWord}
 use Rattle.language.specs.Timeval.{offsetBound, offsetAt, withOffset, solarAt, timeBound}
 use Rattle.language.specs.Expr.{lampReading, groupReading, inputReading, timeReading, sunReading, eventReading, varReading, readingBy, readingAt, literalAt, deltaAt, withDelta, readValue, valueAt}
 use Rattle.language.specs.Trigger.{timerTrigger, ruleTrigger, controllerTrigger, httpTrigger, mqttTrigger, everyTrigger, atBound, atTrigger, sceneClosed, sceneTrigger, deviceTrigger, groupTrigger, hclTrigger, levelCross, lampChange, lampTrigger, inputDeviceTrigger, rawData, rawEvent, eventAt, inputEvent, inputBecomes, lightCross, positionChange, propertyTrigger, pointTrigger, inputChange, inputTrigger, triggerBy, triggerAt}
-use Rattle.language.specs.Condition.{comparisonBy, comparisonAt, controllerCondition, timerCondition, ruleCondition, lastFiredCondition, deviceCondition, sunCondition, timeTo, timeCondition, groupCondition, hclCondition, lampJudged, lampCompared, lampPoint, lampState, lampCondition, lightThan, inputState, inputCondition, textOperand, operandAt, varCompared, varCondition, conditionBy, conditionAt}
+use Rattle.language.specs.Condition.{comparisonBy, comparisonAt, controllerCondition, timerCondition, ruleCondition, lastFiredCondition, deviceCondition, sunCondition, timeTo, timeCondition, dayCondition, groupCondition, hclCondition, lampJudged, lampCompared, lampPoint, lampState, lampCondition, lightThan, inputState, inputCondition, textOperand, operandAt, varCompared, varCondition, conditionBy, conditionAt}
 use Rattle.language.specs.Section.{Lists, repeated, Topics, triggerNamed, whenSection, ifSection, atEnd, ruleAt}
 use Rattle.language.specs.Read.{onAccepted, ruleOf}
 use Rattle.language.proofs.TopicLaws.{topic-refuses}
@@ -67,10 +67,18 @@ module _ (t : ℕ → Tok) where
   unfolding timeBound solarAt withOffset offsetAt offsetBound
   bound-refuses i = search (refusals, choice-refuses) depth 9
 
-  at-refuses : (i : ℕ) (b : TimeBound) → Refuses (atBound t i b)
-  unfolding atBound
-  at-refuses i (Clock m) = search refusals
-  at-refuses i (Solar event offset) = search refusals
+  ranges-refuse : (fuel : ℕ) (days : Days) (i : ℕ) → Refuses (rangesFrom t fuel days i)
+  unfolding rangesFrom rangeAt dayAt lastDay
+  ranges-refuse zero days i = search refusals
+  ranges-refuse (suc fuel) days i = search (refusals, choice-refuses, ranges-refuse fuel) depth 12
+
+  day-set-refuses : (fuel i : ℕ) → Refuses (daySet t fuel i)
+  unfolding daySet
+  day-set-refuses fuel i = search ranges-refuse
+
+  on-days-refuses : (fuel i : ℕ) → Refuses (onDays t fuel i)
+  unfolding onDays
+  on-days-refuses fuel i = search (refusals, day-set-refuses)
 
 ruleset forms = (
   refusals,
@@ -83,7 +91,8 @@ ruleset forms = (
   named-refuses,
   for-refuses,
   bound-refuses,
-  at-refuses,
+  day-set-refuses,
+  on-days-refuses,
   topic-refuses,
 )
 
@@ -97,12 +106,12 @@ module _ (t : ℕ → Tok) (view : View) (range : ℕ → Name) (fuel : ℕ) whe
   trigger-refuses : (i : ℕ) → Refuses (triggerAt t view range fuel i)
   unfolding triggerAt triggerBy inputTrigger inputChange pointTrigger propertyTrigger positionChange lightCross inputBecomes inputEvent
       eventAt rawEvent rawData inputDeviceTrigger lampTrigger lampChange levelCross hclTrigger groupTrigger deviceTrigger sceneTrigger
-      sceneClosed atTrigger everyTrigger mqttTrigger httpTrigger controllerTrigger ruleTrigger timerTrigger
+      sceneClosed atTrigger atBound everyTrigger mqttTrigger httpTrigger controllerTrigger ruleTrigger timerTrigger
   trigger-refuses i = search forms depth 40
 
   condition-refuses : (i : ℕ) → Refuses (conditionAt t view range fuel i)
   unfolding conditionAt conditionBy varCondition varCompared operandAt textOperand inputCondition inputState lightThan lampCondition
-      lampState lampPoint propertyWord lampCompared lampJudged hclCondition groupCondition timeCondition timeTo sunCondition
+      lampState lampPoint propertyWord lampCompared lampJudged hclCondition groupCondition dayCondition timeCondition timeTo sunCondition
       deviceCondition lastFiredCondition ruleCondition timerCondition controllerCondition comparisonAt comparisonBy
   condition-refuses i = search (forms, value-refuses) depth 40 fits 9000
 

@@ -16,7 +16,7 @@ use Rattle.topics.specs.Topics.{Allowed, fits}
 use Rattle.topics.proofs.AllowedLaws.{fits-append, fits-allowed}
 use Rattle.text.proofs.Tests.{both}
 use Rattle.tokens.specs.Grammar.{Word, a-word}
-use Rattle.tokens.proofs.Okay.{Okay, bind-ok, pick-ok, perhaps-ok, mapped, word-kind, not-kind, is-word, word-yes, word-no, word-none}
+use Rattle.tokens.proofs.Okay.{Okay, bind-ok, pick-ok, perhaps-ok, mapped, word-kind, is-word, word-yes, word-no, word-none}
 use Rattle.language.specs.Trigger.{triggerAt}
 use Rattle.language.specs.Condition.{conditionAt}
 use Rattle.language.specs.Section.{repeated, Topics, triggerNamed, whenSection, ifSection, Lists, atEnd, ruleAt}
@@ -27,7 +27,7 @@ use Rattle.language.specs.grammar.Text.{Repeated, end, more, When-sectio
 use Rattle.model.specs.declared.Name.{Name}
 use Rattle.model.specs.declared.Trigger.{Trigger}
 use Rattle.model.specs.declared.Condition.{Condition}
-use Rattle.language.proofs.WordLaws.{End, Unsigned, Stops}
+use Rattle.language.proofs.WordLaws.{End, Stops-condition, Stops-trigger, other-unsigned, other-days}
 use Rattle.language.proofs.TriggerSound.{trigger-sound}
 use Rattle.language.proofs.TriggerComplete.{trigger-complete}
 use Rattle.language.proofs.ConditionSound.{condition-sound}
@@ -84,23 +84,28 @@ module _ (t : ℕ → Tok) (word : List ℕ) (number : ℕ) {S A : Type 0} (Form
     repeated-complete (suc most) {s} l n b (more {k = k} {x = x} (a-word p q) h r) (more-kept fine kept) =
         rw (word-yes t (a-word p q), complete s _ k x (goes-on b r) h fine, repeated-complete most (omega arith) n b r kept)
 
--- behind a trigger: `when`, `if` or the end
+-- behind a trigger stand `when`, `if` or the end, behind a condition `and` or the end
 word-stops : {t : ℕ → Tok} {word : List ℕ} {i j : ℕ} → sameBytes word (ascii "on") ≡ false → sameBytes word (ascii "is") ≡ false →
-    Word t word i j → Stops t i
+    Word t word i j → Stops-trigger t i
 word-stops {t} e f w =
     record {
-      unsigned = record { no-plus = not-kind t 21 refl (word-kind w); no-minus = not-kind t 22 refl (word-kind w) };
+      unsigned = other-unsigned t refl refl (word-kind w);
+      days = other-days t refl refl (word-kind w);
       no-on = word-no t (ascii "on") e w;
       no-is = word-no t (ascii "is") f w;
     }
 
-end-stops : (t : ℕ → Tok) (i : ℕ) → t i .kind ≡ 0 → Stops t i
+end-stops : (t : ℕ → Tok) (i : ℕ) → t i .kind ≡ 0 → Stops-trigger t i
 end-stops t i e =
     record {
-      unsigned = record { no-plus = not-kind t 21 refl e; no-minus = not-kind t 22 refl e };
+      unsigned = other-unsigned t refl refl e;
+      days = other-days t refl refl e;
       no-on = word-none t (ascii "on") refl e;
       no-is = word-none t (ascii "is") refl e;
     }
+
+stops-condition : {t : ℕ → Tok} {i : ℕ} → Stops-trigger t i → Stops-condition t i
+stops-condition s = record { unsigned = s .unsigned; days = s .days }
 
 -- the lists in an answer
 abbrev triggers-in : Res Lists → List Trigger
@@ -207,7 +212,7 @@ module _ (t : ℕ → Tok) (view : View) (range : ℕ → Name) (topics : Topics
     an-if : {j : ℕ} → Word t (ascii "if") i j → Behind-when i
     the-end : t i .kind ≡ 0 → Behind-when i
 
-  when-stops : {i : ℕ} → Behind-when i → Stops t i
+  when-stops : {i : ℕ} → Behind-when i → Stops-trigger t i
   unfolding sameBytes
   when-stops (an-if w) = word-stops refl refl w
   when-stops (the-end e) = end-stops t _ e
@@ -218,7 +223,7 @@ module _ (t : ℕ → Tok) (view : View) (range : ℕ → Name) (topics : Topics
   no-when (the-end e) = word-none t (ascii "when") refl e
 
   module _ (past : End t fuel) where
-    named-complete : (named : List (List ℕ)) (i j : ℕ) (x : Trigger) → Stops t j → Trigger-of t view range i x j → Fine-topic named x →
+    named-complete : (named : List (List ℕ)) (i j : ℕ) (x : Trigger) → Stops-trigger t j → Trigger-of t view range i x j → Fine-topic named x →
         triggerNamed t view range topics fuel named i ≡ ok x j
     unfolding triggerNamed
     named-complete named i j x s g e = rw (trigger-complete past s g, e)
@@ -229,7 +234,7 @@ module _ (t : ℕ → Tok) (view : View) (range : ℕ → Name) (topics : Topics
     when-complete b (whens end some few) kept = absurd (omega arith)
     when-complete b (whens (more (a-word p q) h r) some few) kept =
         rw (word-yes t (a-word p q))
-        (repeated-complete t (ascii "when") 37 (Trigger-of t view range) (triggerNamed t view range topics fuel) with-topic Fine-topic (Stops t)
+        (repeated-complete t (ascii "when") 37 (Trigger-of t view range) (triggerNamed t view range topics fuel) with-topic Fine-topic (Stops-trigger t)
         named-complete (λ i j w. word-stops refl refl w) 4 few (no-when b) (when-stops b) (more (a-word p q) h r) kept)
 
     pub if-complete : {i j : ℕ} {ys : List Condition} → t j .kind ≡ 0 → If-section t view range i ys j →
@@ -237,16 +242,16 @@ module _ (t : ℕ → Tok) (view : View) (range : ℕ → Name) (topics : Topics
     unfolding ifSection sameBytes
     if-complete e no-if = rw (word-none t (ascii "if") refl e)
     if-complete {j = j} e (conditions (a-word p q) (joined h r few)) =
-        let s : Unsigned t j = end-stops t j e .unsigned in
-        let complete : (s : Unit {0}) (i j : ℕ) (x : Condition) → Unsigned t j → Condition-of t view range i x j → Any-condition s x →
+        let s : Stops-condition t j = stops-condition (end-stops t j e) in
+        let complete : (s : Unit {0}) (i j : ℕ) (x : Condition) → Stops-condition t j → Condition-of t view range i x j → Any-condition s x →
         conditionAt t view range fuel i ≡ ok x j =
         λ s i j x u g a. condition-complete past u g in
         let form : Unit {0} → ℕ → Res Condition = λ s. conditionAt t view range fuel in
-        let next : (i j : ℕ) → Word t (ascii "and") i j → Unsigned t i = λ i j w. word-stops refl refl w .unsigned in
+        let next : (i j : ℕ) → Word t (ascii "and") i j → Stops-condition t i = λ i j w. stops-condition (word-stops refl refl w) in
         rw (
           word-yes t (a-word p q),
-          complete tt _ _ _ (goes-on t (ascii "and") 39 (Condition-of t view range) form same-state Any-condition (Unsigned t) complete next s r) h tt,
-          repeated-complete t (ascii "and") 39 (Condition-of t view range) form same-state Any-condition (Unsigned t) complete next 3 few
+          complete tt _ _ _ (goes-on t (ascii "and") 39 (Condition-of t view range) form same-state Any-condition (Stops-condition t) complete next s r) h tt,
+          repeated-complete t (ascii "and") 39 (Condition-of t view range) form same-state Any-condition (Stops-condition t) complete next 3 few
               (word-none t (ascii "and") refl e) s r (all-kept tt _),
         )
 

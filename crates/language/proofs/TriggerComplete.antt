@@ -1,7 +1,7 @@
 -- A reading of EVENT or of a trigger by the grammar is what the definitions accept, if the fuel reaches as far as the tokens.
 use Prim.Native.Nat.{ℕ, _+_}
 use mathlib.Core.Path.{_≡_, refl}
-use mathlib.Core.Bool.{true, false}
+use mathlib.Core.Bool.{true}
 use mathlib.Core.List.{List, [], _∷_}
 use borrow.Author.Tests.{le-ltb}
 use Rattle.text.specs.Literal.{ascii}
@@ -11,7 +11,7 @@ use Rattle.tokens.specs.Result.{ok}
 use Rattle.tokens.specs.Cursor.{Tok}
 use Rattle.tokens.specs.Phrase.{wordsIn, position, hasPlace, phraseChoice}
 use Rattle.tokens.specs.Grammar.{token, Word, a-word}
-use Rattle.tokens.proofs.Okay.{token-kind, not-kind, kind-yes, word-yes, word-no, word-none, kind-complete, word-complete, up-to-complete}
+use Rattle.tokens.proofs.Okay.{token-kind, word-kind, not-kind, kind-yes, word-yes, word-no, word-none, kind-complete, word-complete, up-to-complete}
 use Rattle.tokens.proofs.PhraseLaws.{phrase-complete, choice-complete, two-complete, either-first, either-second, point-phrase-complete}
 use Rattle.sheet.specs.View.{View}
 use Rattle.sheet.specs.declared.resolve.Scope.{Scope}
@@ -22,12 +22,15 @@ use Rattle.references.proofs.RefComplete.{clause-complete, lamp-complete, group
 use Rattle.references.proofs.ArgComplete.{args-complete}
 use Rattle.model.specs.declared.Name.{Name}
 use Rattle.model.specs.declared.Selector.{Selector}
+use Rattle.model.specs.declared.Days.{Days}
 use Rattle.model.specs.declared.Event.{Event}
 use Rattle.model.specs.declared.Trigger.{Trigger}
+use Rattle.days.specs.Grammar.{On-days, without, on}
+use Rattle.days.proofs.GrammarComplete.{on-days-complete}
 use Rattle.language.specs.Limits.{leastPeriod}
-use Rattle.language.specs.Trigger.{powerOf, crossingOf, occupancyOf, aggregateOf, onlineOf, overrideOf, timerTrigger, ruleTrigger, controllerChange, controllerTrigger, httpTrigger, mqttTrigger, everyTrigger, atBound, atTrigger, sceneClosed, sceneTrigger, deviceTrigger, groupTrigger, hclTrigger, levelCross, lampChange, lampTrigger, inputDeviceChange, inputDeviceTrigger, rawData, rawEvent, eventOf, eventWords, eventAt, inputEvent, inputBecomes, lightCross, positionChange, propertyTrigger, pointTrigger, inputChange, inputTrigger, triggerWords, triggerBy, triggerAt}
+use Rattle.language.specs.Trigger.{powerOf, crossingOf, occupancyOf, aggregateOf, onlineOf, overrideOf, timerTrigger, ruleTrigger, controllerChange, controllerTrigger, httpTrigger, mqttTrigger, everyTrigger, atOn, atBound, atTrigger, sceneClosed, sceneTrigger, deviceTrigger, groupTrigger, hclTrigger, levelCross, lampChange, lampTrigger, inputDeviceChange, inputDeviceTrigger, rawData, rawEvent, eventOf, eventWords, eventAt, inputEvent, inputBecomes, lightCross, positionChange, propertyTrigger, pointTrigger, inputChange, inputTrigger, triggerWords, triggerBy, triggerAt}
 use Rattle.language.specs.grammar.Trigger.{Event-of, press, release, short-press, double-press, long-press-start, long-press-repeat, long-press-stop, button-free, button-stuck, movement, no-movement, any-event, raw, Trigger-of, timer-fires, rule-fails, controller-starts, controller-becomes-active, http-trigger, mqtt-message, every, at-time, at-solar, scene-recalled, goes-offline, comes-online, group-becomes, hcl-override, lamp-turns, lamp-level-cross, power-cycled, manual-config-changed, input-event, input-occupancy, input-light-cross, input-position-change}
-use Rattle.language.proofs.WordLaws.{End, Stops, chosen, named-complete, for-complete}
+use Rattle.language.proofs.WordLaws.{End, Unsigned, Stops-trigger, other-unsigned, chosen, named-complete, for-complete}
 use Rattle.language.proofs.TopicLaws.{topic-at-complete}
 use Rattle.language.proofs.TimeLaws.{bound-complete}
 
@@ -36,6 +39,11 @@ adapter-is : {view : View} {scope : Scope} {a : ℕ} → On-adapter view scope a
 unfolding scopeOrPrimary
 adapter-is primary = refl
 adapter-is given = refl
+
+-- no sign stands behind a time, before `on` or where that is left out
+before-on : {t : ℕ → Tok} {i j : ℕ} {days : Days} → Unsigned t j → On-days t i days j → Unsigned t i
+before-on u without = u
+before-on {t} u (on w h) = other-unsigned t refl refl (word-kind w)
 
 -- the words of the two lists
 abbrev events : List (List ℕ)
@@ -97,10 +105,10 @@ first : {t : ℕ → Tok} (view : View) (range : ℕ → Name) (fuel n : ℕ) {i
 unfolding triggerAt
 first {t} view range fuel n w e h = rw (chosen t triggerWords 21 first-list n w e h)
 
--- a reading of a trigger is answered, with as much fuel as there are tokens, where neither a sign nor `on` nor `is` follows
-pub trigger-complete : {t : ℕ → Tok} {view : View} {range : ℕ → Name} {fuel i j : ℕ} {x : Trigger} → End t fuel → Stops t j →
+-- a reading of a trigger is answered, with as much fuel as there are tokens, where nothing follows that would go on with it
+pub trigger-complete : {t : ℕ → Tok} {view : View} {range : ℕ → Name} {fuel i j : ℕ} {x : Trigger} → End t fuel → Stops-trigger t j →
     Trigger-of t view range i x j → triggerAt t view range fuel i ≡ ok x j
-unfolding triggerBy timerTrigger ruleTrigger controllerTrigger controllerChange httpTrigger mqttTrigger everyTrigger atBound atTrigger sceneClosed
+unfolding triggerBy timerTrigger ruleTrigger controllerTrigger controllerChange httpTrigger mqttTrigger everyTrigger atOn atBound atTrigger sceneClosed
     sceneTrigger deviceTrigger onlineOf groupTrigger aggregateOf hclTrigger overrideOf levelCross crossingOf lampChange powerOf lampTrigger
     inputDeviceChange inputDeviceTrigger inputTrigger inputEvent inputBecomes occupancyOf lightCross positionChange propertyTrigger
     pointTrigger inputChange oneInstance phraseChoice wordsIn split position sameBytes
@@ -113,8 +121,10 @@ trigger-complete {t} end s (controller-becomes-active w p) =
 trigger-complete {t} end s (http-trigger w h) = rw (first _ _ _ 11 w refl refl, word-complete t h)
 trigger-complete {t} end s (mqtt-message w h topic) = rw (first _ _ _ 12 w refl refl, topic-at-complete h topic, s .no-is)
 trigger-complete {t} end s (every {ms = ms} w h l) = rw (first _ _ _ 2 w refl refl, kind-complete t refl h, le-ltb ms leastPeriod l)
-trigger-complete {t} end s (at-time w h) = rw (first _ _ _ 1 w refl refl, bound-complete (s .unsigned) h, s .no-on)
-trigger-complete {t} end s (at-solar w h) = rw (first _ _ _ 1 w refl refl, bound-complete (s .unsigned) h)
+trigger-complete {t} end s (at-time w h d) =
+    rw (first _ _ _ 1 w refl refl, bound-complete (before-on (s .unsigned) d) h, on-days-complete t end (s .days) (s .no-on) d)
+trigger-complete {t} end s (at-solar w h d) =
+    rw (first _ _ _ 1 w refl refl, bound-complete (before-on (s .unsigned) d) h, on-days-complete t end (s .days) (s .no-on) d)
 trigger-complete {t} end s (scene-recalled w left h c right r a) =
     rw (
       first _ _ _ 5 w refl refl,

@@ -23,14 +23,18 @@ use Rattle.model.specs.declared.Ref.{Ref}
 use Rattle.model.specs.declared.InputRef.{InputRef}
 use Rattle.model.specs.declared.Selector.{Selector}
 use Rattle.model.specs.declared.LightTarget.{LightTarget}
+use Rattle.model.specs.declared.Days.{Days}
 use Rattle.model.specs.declared.TimeBound.{TimeBound}
 use Rattle.model.specs.declared.TimeBound.the-variants.{Clock, Solar}
 use Rattle.model.specs.declared.Override.{Override}
 use Rattle.model.specs.declared.Trigger.the-variants.{HclOverride, TimerFires, RuleFails}
+use Rattle.days.specs.Read.{onDays}
+use Rattle.days.specs.Grammar.{On-days}
+use Rattle.days.proofs.GrammarSound.{on-days-sound}
 use Rattle.language.specs.Limits.{leastPeriod}
 use Rattle.language.specs.Words.{namedPhrase, targetFor}
 use Rattle.language.specs.Timeval.{timeBound}
-use Rattle.language.specs.Trigger.{powerOf, crossingOf, occupancyOf, aggregateOf, onlineOf, overrideOf, timerTrigger, ruleTrigger, controllerChange, controllerTrigger, httpTrigger, topicAt, mqttTrigger, everyTrigger, atBound, atTrigger, sceneClosed, sceneTrigger, deviceTrigger, groupTrigger, hclTrigger, levelCross, lampChange, lampTrigger, inputDeviceChange, inputDeviceTrigger, rawData, rawEvent, eventOf, eventWords, eventAt, inputEvent, inputBecomes, lightCross, positionChange, propertyTrigger, pointTrigger, inputChange, inputTrigger, triggerWords, triggerBy, triggerAt}
+use Rattle.language.specs.Trigger.{powerOf, crossingOf, occupancyOf, aggregateOf, onlineOf, overrideOf, timerTrigger, ruleTrigger, controllerChange, controllerTrigger, httpTrigger, topicAt, mqttTrigger, everyTrigger, atOn, atBound, atTrigger, sceneClosed, sceneTrigger, deviceTrigger, groupTrigger, hclTrigger, levelCross, lampChange, lampTrigger, inputDeviceChange, inputDeviceTrigger, rawData, rawEvent, eventOf, eventWords, eventAt, inputEvent, inputBecomes, lightCross, positionChange, propertyTrigger, pointTrigger, inputChange, inputTrigger, triggerWords, triggerBy, triggerAt}
 use Rattle.language.specs.grammar.Timeval.{Bound}
 use Rattle.language.specs.grammar.Trigger.{Event-of, press, release, short-press, double-press, long-press-start, long-press-repeat, long-press-stop, button-free, button-stuck, movement, no-movement, any-event, raw, Starts-clears, Trigger-of, timer-fires, rule-fails, controller-starts, controller-becomes-active, http-trigger, mqtt-message, every, at-time, at-solar, scene-recalled, goes-offline, comes-online, group-becomes, hcl-override, lamp-turns, lamp-level-cross, power-cycled, manual-config-changed, input-event, input-occupancy, input-light-cross, input-position-change}
 use Rattle.language.proofs.WordLaws.{then-kind, then-word, then-up-to, perhaps-word, Named-phrase, named-phrase, named-sound, For-target, for-target, for-sound}
@@ -129,14 +133,18 @@ module _ (t : ℕ → Tok) (view : View) (range : ℕ → Name) where
         let G = Trigger-of t view range i in
         then-kind t G 5 j _ (λ ms k h. pick-ok G (ltb ms leastPeriod) _ _ (λ e. tt) (λ e. every w h (ltb-false _ _ e)))
 
-    bound-at : Word t (ascii "at") i j → (b : TimeBound) (k : ℕ) → Bound t j b k → Okay (Trigger-of t view range i) (atBound t k b)
-    unfolding atBound
-    bound-at w (Clock m) k h = pick-ok (Trigger-of t view range i) (isWord t (ascii "on") k) _ _ (λ e. tt) (λ e. at-time w h)
-    bound-at w (Solar event offset) k h = at-solar w h
+    on-sound : Word t (ascii "at") i j → (b : TimeBound) {k : ℕ} → Bound t j b k → (days : Days) (l : ℕ) → On-days t k days l →
+        Trigger-of t view range i (atOn b days) l
+    unfolding atOn
+    on-sound w (Clock m) h days l g = at-time w h g
+    on-sound w (Solar event offset) h days l g = at-solar w h g
 
-    at-sound : Word t (ascii "at") i j → Okay (Trigger-of t view range i) (atTrigger t j)
-    unfolding atTrigger
-    at-sound w = bind-ok (Trigger-of t view range i) (timeBound t j) _ (bound-sound t j) (λ b k h. bound-at w b k h)
+    at-sound : (fuel : ℕ) → Word t (ascii "at") i j → Okay (Trigger-of t view range i) (atTrigger t fuel j)
+    unfolding atTrigger atBound
+    at-sound fuel w =
+        let G = Trigger-of t view range i in
+        bind-ok G (timeBound t j) _ (bound-sound t j)
+        (λ b k h. bind-ok G (onDays t fuel k) _ (on-days-sound t fuel k) (λ days l g. on-sound w b h days l g))
 
     scene-sound : Word t (ascii "scene") i j → Okay (Trigger-of t view range i) (sceneTrigger t view j)
     unfolding sceneTrigger sceneClosed
@@ -264,7 +272,7 @@ module _ (t : ℕ → Tok) (view : View) (range : ℕ → Name) where
       choice-ok t (Trigger-of t view range i) triggerWords 21 i _ (
         (λ j w. input-sound i j fuel w),
         (
-          (λ j w. at-sound i j w),
+          (λ j w. at-sound i j fuel w),
           (
             (λ j w. every-sound i j w),
             (

@@ -1,14 +1,16 @@
 -- Laws of steps that several forms share, and what may stand behind a form.
 use Prim.Native.Nat.{ℕ, _+_, _≤_}
 use mathlib.Core.Path.{_≡_, refl}
-use mathlib.Core.Bool.{Bool, true, false}
+use mathlib.Core.Bool.{true, false}
 use mathlib.Core.List.{List}
+use lib.Dec.{eqb}
 use Rattle.text.specs.Literal.{ascii}
+use Rattle.tokens.specs.Kind.{COMMA, POINTS, PLUS, MINUS}
 use Rattle.tokens.specs.Result.{Res, ok, bind, perhaps}
 use Rattle.tokens.specs.Cursor.{Tok, isWord, takeKind, takeWord, takeIn}
 use Rattle.tokens.specs.Phrase.{wordsIn, position, hasPlace, choiceAt, phraseAt}
 use Rattle.tokens.specs.Grammar.{Token, token, Word, a-word, Up-to, Phrase}
-use Rattle.tokens.proofs.Okay.{Okay, bind-ok, mapped, perhaps-ok, kind-sound, kind-complete, word-sound, word-complete, is-word, up-to-sound}
+use Rattle.tokens.proofs.Okay.{Okay, not-kind, bind-ok, mapped, perhaps-ok, kind-sound, kind-complete, word-sound, word-complete, is-word, up-to-sound}
 use Rattle.tokens.proofs.PhraseLaws.{phrase-sound, phrase-complete, choice-complete}
 use Rattle.sheet.specs.View.{View}
 use Rattle.references.specs.Refs.{quotedName, lightTarget}
@@ -16,6 +18,7 @@ use Rattle.references.specs.Grammar.{Q, Target}
 use Rattle.references.proofs.RefSound.{quoted-sound, target-sound}
 use Rattle.references.proofs.RefComplete.{quoted-complete, target-complete}
 use Rattle.model.specs.declared.LightTarget.{LightTarget}
+use Rattle.days.proofs.GrammarComplete.{Stops-days}
 use Rattle.language.specs.Words.{namedPhrase, targetFor, propertyWord}
 
 -- past the tokens, of which there are at most fuel, the kind is 0
@@ -24,14 +27,27 @@ End t fuel = (k : ℕ) → fuel ≤ k → t k .kind ≡ 0
 
 -- no sign stands here, so an optional offset before it was left out
 pub record Unsigned (t : ℕ → Tok) (i : ℕ) : Type 0 where
-  pub no-plus : t i .kind ≡ 21 → ⊥
-  pub no-minus : t i .kind ≡ 22 → ⊥
+  pub no-plus : t i .kind ≡ PLUS → ⊥
+  pub no-minus : t i .kind ≡ MINUS → ⊥
 
--- neither a sign nor `on` nor `is`
-pub record Stops (t : ℕ → Tok) (i : ℕ) : Type 0 where
+-- what may stand behind a condition: no sign, no comma and no `..`, which would go on with it
+pub record Stops-condition (t : ℕ → Tok) (i : ℕ) : Type 0 where
   pub unsigned : Unsigned t i
+  pub days : Stops-days t i
+
+-- and behind a trigger: neither `on` nor `is` either
+pub record Stops-trigger (t : ℕ → Tok) (i : ℕ) : Type 0 where
+  pub unsigned : Unsigned t i
+  pub days : Stops-days t i
   pub no-on : isWord t (ascii "on") i ≡ false
   pub no-is : isWord t (ascii "is") i ≡ false
+
+-- none of these stands where a token of another kind does
+pub other-unsigned : (t : ℕ → Tok) {kind i : ℕ} → eqb kind PLUS ≡ false → eqb kind MINUS ≡ false → t i .kind ≡ kind → Unsigned t i
+other-unsigned t p m e = record { no-plus = not-kind t PLUS p e; no-minus = not-kind t MINUS m e }
+
+pub other-days : (t : ℕ → Tok) {kind i : ℕ} → eqb kind COMMA ≡ false → eqb kind POINTS ≡ false → t i .kind ≡ kind → Stops-days t i
+other-days t c p e = record { no-comma = not-kind t COMMA c e; no-points = not-kind t POINTS p e }
 
 -- One step, for any form G that goes on with it.
 module _ (t : ℕ → Tok) {B : Type 0} (G : B → ℕ → Type 0) where

@@ -1,4 +1,4 @@
--- Conditions: what is answered at the token behind `if` or `and` (document 01, "Grammar", and questions 20 to 40).
+-- Conditions: what is answered at the token behind `if` or `and` (document 01, "Grammar", and questions 20 to 40; `day` by document 02, §1).
 use Prim.Native.Nat.{ℕ, _+_}
 use mathlib.Core.List.{List}
 use lib.Dec.{ltb, eqb}
@@ -26,7 +26,8 @@ use Rattle.model.specs.declared.Comparison.the-variants.{Eq, Ne, Ge, Le, Gt, Lt
 use Rattle.model.specs.declared.LampProperty.{LampProperty}
 use Rattle.model.specs.declared.Operand.{Operand}
 use Rattle.model.specs.declared.Condition.{Condition}
-use Rattle.model.specs.declared.Condition.the-variants.{TimeInRange, SunIs, LampIs, LampCompare, GroupState, InputOccupancy, InputLight, HclState, DeviceOnline, RuleEnabled, LastFiredOlderThan, TimerRunning, ControllerActive, VarCompare}
+use Rattle.model.specs.declared.Condition.the-variants.{TimeInRange, SunIs, LampIs, LampCompare, GroupState, InputOccupancy, InputLight, HclState, DeviceOnline, RuleEnabled, LastFiredOlderThan, TimerRunning, ControllerActive, VarCompare, DayIn}
+use Rattle.days.specs.Read.{daySet}
 use Rattle.language.specs.Limits.{mostText}
 use Rattle.language.specs.Words.{namedPhrase, targetFor, propertyWord}
 use Rattle.language.specs.Timeval.{timeBound}
@@ -81,6 +82,10 @@ timeTo t start i = bind (takeKind t POINTS i) (λ a j. bind (timeBound t j) (λ 
 
 unfoldable pub timeCondition : (ℕ → Tok) → ℕ → Res Condition
 timeCondition t i = bind (takeWord t (ascii "in") i) (λ a j. bind (timeBound t j) (λ start k. timeTo t start k))
+
+-- document 02, §1: "`day in` takes one as a condition"
+unfoldable pub dayCondition : (ℕ → Tok) → ℕ → ℕ → Res Condition
+dayCondition t fuel i = bind (takeWord t (ascii "in") i) (λ a j. bind (daySet t fuel j) (λ days k. ok (DayIn days) k))
 
 -- "group R any_on or all_off"
 unfoldable pub groupCondition : (ℕ → Tok) → View → ℕ → Res Condition
@@ -156,24 +161,24 @@ varCompared t view range fuel name i =
 unfoldable pub varCondition : (ℕ → Tok) → View → (ℕ → Name) → ℕ → ℕ → Res Condition
 varCondition t view range fuel i = bind (quotedName t i) (λ n j. varCompared t view range fuel (range n) j)
 
--- the first words, and the condition with the n-th of them at the token i, j behind it; the left-out `day` is the last: 40, at that word
+-- the first words, and the condition with the n-th of them, whose next token is i
 abbrev pub conditionWords : List ℕ
 conditionWords = ascii "time sun lamp group input hcl device rule last_fired timer controller var day"
 
-unfoldable pub conditionBy : (ℕ → Tok) → View → (ℕ → Name) → ℕ → ℕ → ℕ → ℕ → Res Condition
-conditionBy t view range fuel i n j =
-    pick (eqb n 0) (timeCondition t j)
-    (pick (eqb n 1) (sunCondition t j)
-    (pick (eqb n 2) (lampCondition t view range fuel j)
-    (pick (eqb n 3) (groupCondition t view j)
-    (pick (eqb n 4) (inputCondition t view range fuel j)
-    (pick (eqb n 5) (hclCondition t view j)
-    (pick (eqb n 6) (deviceCondition t view j)
-    (pick (eqb n 7) (ruleCondition t range j)
-    (pick (eqb n 8) (lastFiredCondition t range j)
-    (pick (eqb n 9) (timerCondition t range j)
-    (pick (eqb n 10) (controllerCondition t j)
-    (pick (eqb n 11) (varCondition t view range fuel j) (refuse 40 i))))))))))))
+unfoldable pub conditionBy : (ℕ → Tok) → View → (ℕ → Name) → ℕ → ℕ → ℕ → Res Condition
+conditionBy t view range fuel n i =
+    pick (eqb n 0) (timeCondition t i)
+    (pick (eqb n 1) (sunCondition t i)
+    (pick (eqb n 2) (lampCondition t view range fuel i)
+    (pick (eqb n 3) (groupCondition t view i)
+    (pick (eqb n 4) (inputCondition t view range fuel i)
+    (pick (eqb n 5) (hclCondition t view i)
+    (pick (eqb n 6) (deviceCondition t view i)
+    (pick (eqb n 7) (ruleCondition t range i)
+    (pick (eqb n 8) (lastFiredCondition t range i)
+    (pick (eqb n 9) (timerCondition t range i)
+    (pick (eqb n 10) (controllerCondition t i)
+    (pick (eqb n 11) (varCondition t view range fuel i) (dayCondition t fuel i))))))))))))
 
 unfoldable pub conditionAt : (ℕ → Tok) → View → (ℕ → Name) → ℕ → ℕ → Res Condition
-conditionAt t view range fuel i = bind (choiceAt t conditionWords 21 i) (λ n j. conditionBy t view range fuel i n j)
+conditionAt t view range fuel i = bind (choiceAt t conditionWords 21 i) (λ n j. conditionBy t view range fuel n j)

@@ -1,4 +1,5 @@
--- Triggers: what is answered at the token behind `when` (document 01, "Grammar", and questions 20 to 40; `mqtt` by document 02, §12).
+-- Triggers: what is answered at the token behind `when` (document 01, "Grammar", and questions 20 to 40; `on` and `mqtt` by
+-- document 02, §1 and §12).
 use Prim.Native.Nat.{ℕ}
 use mathlib.Core.List.{List}
 use lib.Dec.{ltb, eqb}
@@ -16,6 +17,7 @@ use Rattle.model.specs.declared.Name.{Name}
 use Rattle.model.specs.declared.Ref.{Ref}
 use Rattle.model.specs.declared.InputRef.{InputRef}
 use Rattle.model.specs.declared.Selector.{Selector}
+use Rattle.model.specs.declared.Days.{Days}
 use Rattle.model.specs.declared.TimeBound.{TimeBound}
 use Rattle.model.specs.declared.TimeBound.the-variants.{Clock, Solar}
 use Rattle.model.specs.declared.Event.{Event}
@@ -35,6 +37,7 @@ use Rattle.model.specs.declared.Override.the-variants.{Starts, Clears}
 use Rattle.model.specs.declared.Trigger.{Trigger}
 use Rattle.model.specs.declared.Trigger.the-variants.{InputEvent, InputOccupancy, InputLightCross, InputPositionChange, InputDevicePowerCycled, InputDeviceManualConfigChanged, AtTime, AtSolar, Every, LampTurns, LampLevelCross, GroupBecomes, SceneRecalled, DeviceOnline, HclOverride, TimerFires, ControllerStarts, ControllerBecomesActive, RuleFails, HttpTrigger, MqttMessage}
 use Rattle.topics.specs.Topic.{topicNumber}
+use Rattle.days.specs.Read.{onDays}
 use Rattle.language.specs.Limits.{leastPeriod}
 use Rattle.language.specs.Words.{namedPhrase, targetFor}
 use Rattle.language.specs.Timeval.{timeBound}
@@ -92,13 +95,16 @@ mqttTrigger t range i =
 unfoldable pub everyTrigger : (ℕ → Tok) → ℕ → Res Trigger
 everyTrigger t i = bind (takeKind t DURATION i) (λ ms j. pick (ltb ms leastPeriod) (refuse 35 i) (ok (Every ms) j))
 
--- "at TIME or SOLAR"; `on` after a TIME is left out: 40, at that word
-unfoldable pub atBound : (ℕ → Tok) → ℕ → TimeBound → Res Trigger
-atBound t i (Clock m) = pick (isWord t (ascii "on") i) (refuse 40 i) (ok (AtTime m) i)
-atBound t i (Solar event offset) = ok (AtSolar event offset) i
+-- "at TIME or SOLAR"; document 02, §1: "After `at` and its TIME or SOLAR, `on` takes a day set"
+unfoldable pub atOn : TimeBound → Days → Trigger
+atOn (Clock m) days = AtTime m days
+atOn (Solar event offset) days = AtSolar event offset days
 
-unfoldable pub atTrigger : (ℕ → Tok) → ℕ → Res Trigger
-atTrigger t i = bind (timeBound t i) (λ b j. atBound t j b)
+unfoldable pub atBound : (ℕ → Tok) → ℕ → TimeBound → ℕ → Res Trigger
+atBound t fuel bound i = bind (onDays t fuel i) (λ days j. ok (atOn bound days) j)
+
+unfoldable pub atTrigger : (ℕ → Tok) → ℕ → ℕ → Res Trigger
+atTrigger t fuel i = bind (timeBound t i) (λ bound j. atBound t fuel bound j)
 
 -- "scene (0..15 perhaps `, adapter = A`) recalled"
 unfoldable pub sceneClosed : (ℕ → Tok) → View → ℕ → ℕ → Res Trigger
@@ -233,7 +239,7 @@ triggerWords = ascii "input at every lamp group scene device hcl timer controlle
 unfoldable pub triggerBy : (ℕ → Tok) → View → (ℕ → Name) → ℕ → ℕ → ℕ → Res Trigger
 triggerBy t view range fuel n i =
     pick (eqb n 0) (inputTrigger t view fuel i)
-    (pick (eqb n 1) (atTrigger t i)
+    (pick (eqb n 1) (atTrigger t fuel i)
     (pick (eqb n 2) (everyTrigger t i)
     (pick (eqb n 3) (lampTrigger t view i)
     (pick (eqb n 4) (groupTrigger t view i)

@@ -39,6 +39,10 @@ lastAdapter = 255
 abbrev pub lastParty : ℕ
 lastParty = 255
 
+-- document 02, §1: "days are mon, tue, wed, thu, fri, sat, sun"
+abbrev pub weekDays : ℕ
+weekDays = 7
+
 -- "A name has 1 to 48 bytes"
 abbrev pub longestName : ℕ
 longestName = 48

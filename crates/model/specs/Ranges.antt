@@ -1,13 +1,14 @@
--- Every reference in a value of a rule, and every instance, scene, level and event information, is within the range of its kind (Limits.antt):
+-- Every reference in a value of a rule, and every instance, scene, level, event information and day set, is within the range of its kind (Limits.antt):
 -- said of the values alone, one line for each case.
-use Prim.Native.Nat.{ℕ, _≤_}
+use Prim.Native.Nat.{ℕ, _^_, _≤_, _<_}
 use mathlib.Core.List.{List, [], _∷_}
-use Rattle.model.specs.Limits.{lastShortAddress, lastGroup, lastScene, lastLevel, lastInstance, lastInstanceGroup, lastInstanceType, lastEventInformation, lastAdapter}
+use Rattle.model.specs.Limits.{lastShortAddress, lastGroup, lastScene, lastLevel, lastInstance, lastInstanceGroup, lastInstanceType, lastEventInformation, lastAdapter, weekDays}
 use Rattle.model.specs.declared.Ref.{Ref}
 use Rattle.model.specs.declared.InputRef.{InputRef}
 use Rattle.model.specs.declared.Number.{Number}
 use Rattle.model.specs.declared.Selector.{Selector}
 use Rattle.model.specs.declared.LightTarget.{LightTarget}
+use Rattle.model.specs.declared.Days.{Days}
 use Rattle.model.specs.declared.Event.{Event}
 use Rattle.model.specs.declared.Event.the-variants.{Press, Release, ShortPress, DoublePress, LongPressStart, LongPressRepeat, LongPressStop, ButtonFree, ButtonStuck, Movement, NoMovement, AnyEvent, Raw}
 use Rattle.model.specs.declared.Reading.{Reading}
@@ -75,6 +76,10 @@ Event-in-range NoMovement = Free
 Event-in-range AnyEvent = Free
 Event-in-range (Raw n) = n ≤ lastEventInformation
 
+-- document 02, §1: at least one day, and none but the seven
+unfoldable pub Days-in-range : Days → Type 0
+Days-in-range days = (1 ≤ days .sum) × (days .sum < 2 ^ weekDays)
+
 -- "scene (0..15 …)", "crosses above or below 0..254", "crosses above or below 0..1023"
 unfoldable pub Trigger-in-range : Trigger → Type 0
 Trigger-in-range (Trigger.InputEvent s event) = Selector-in-range s × Event-in-range event
@@ -83,8 +88,8 @@ Trigger-in-range (Trigger.InputLightCross r way light) = Input-in-range r × (li
 Trigger-in-range (Trigger.InputPositionChange r) = Input-in-range r
 Trigger-in-range (Trigger.InputDevicePowerCycled r) = Dev-in-range r
 Trigger-in-range (Trigger.InputDeviceManualConfigChanged r) = Dev-in-range r
-Trigger-in-range (Trigger.AtTime m) = Free
-Trigger-in-range (Trigger.AtSolar event offset) = Free
+Trigger-in-range (Trigger.AtTime m days) = Days-in-range days
+Trigger-in-range (Trigger.AtSolar event offset days) = Days-in-range days
 Trigger-in-range (Trigger.Every ms) = Free
 Trigger-in-range (Trigger.LampTurns r power) = Lamp-in-range r
 Trigger-in-range (Trigger.LampLevelCross r way level) = Lamp-in-range r × (level ≤ lastLevel)
@@ -132,6 +137,7 @@ Condition-in-range (Condition.LastFiredOlderThan name ms) = Free
 Condition-in-range (Condition.TimerRunning name) = Free
 Condition-in-range Condition.ControllerActive = Free
 Condition-in-range (Condition.VarCompare name c v) = Operand-in-range v
+Condition-in-range (Condition.DayIn days) = Days-in-range days
 
 -- each entry of a list
 pub data Each {A : Type 0} (P : A → Type 0) : List A → Type 0 where

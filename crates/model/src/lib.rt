@@ -56,6 +56,11 @@ pub enum LightTarget {
     Broadcast(u32),
 }
 
+// A set of days: the sum of 1 for Monday, 2 for Tuesday, and so on to 64 for Sunday.
+pub struct Days {
+    pub sum: u32,
+}
+
 pub enum SolarEvent {
     Sunrise,
     Sunset,
@@ -121,10 +126,10 @@ pub enum Trigger {
     InputPositionChange(InputRef),
     InputDevicePowerCycled(Ref),
     InputDeviceManualConfigChanged(Ref),
-    // in minutes since midnight
-    AtTime(u32),
-    // with an offset in milliseconds
-    AtSolar(SolarEvent, i32),
+    // in minutes since midnight, and on which days
+    AtTime(u32, Days),
+    // with an offset in milliseconds, and on which days
+    AtSolar(SolarEvent, i32, Days),
     // in milliseconds
     Every(u32),
     LampTurns(Ref, Power),
@@ -254,6 +259,7 @@ pub enum Condition {
     TimerRunning(Name),
     ControllerActive,
     VarCompare(Name, Comparison, Operand),
+    DayIn(Days),
 }
 
 // The finished lists: four records each, of which the first count are in use.

@@ -1,8 +1,7 @@
 -- A reading of ARGS by the grammar is what the definitions accept, if the fuel reaches as far as the tokens.
 use Prim.Native.Nat.{ℕ, zero, suc, _+_, _<_, _≤_}
 use native.Mathlib.Omega.{arith}
-use native.Mathlib.Decide.{decLe}
-use mathlib.Core.Path.{_≡_, refl, sym, _∙_}
+use mathlib.Core.Path.{_≡_, refl}
 use mathlib.Core.Bool.{false}
 use mathlib.Core.List.{List}
 use lib.ListN.{length}
@@ -24,7 +23,7 @@ use Rattle.references.specs.declared.refs.NameOrId.{NameOrId}
 use Rattle.references.specs.declared.args.Item.{Item}
 use Rattle.model.specs.declared.Selector.{Selector}
 use Rattle.model.specs.declared.InputRef.{InputRef}
-use Rattle.tokens.proofs.Okay.{token-kind, not-kind, kind-yes, kind-no, kind-complete, up-to-complete}
+use Rattle.tokens.proofs.Okay.{token-kind, stands-before, not-kind, kind-yes, kind-no, kind-complete, up-to-complete}
 use Rattle.references.proofs.RefComplete.{name-or-id-complete, adapter-complete, refers-complete}
 use Rattle.references.specs.declared.args.Args.{Args}
 use Rattle.references.proofs.RepeatLaws.{Fresh, fresh-end, fresh, allowed-fresh}
@@ -149,21 +148,13 @@ pub no-token : (text words : List ℕ) (k : ℕ) → capacity words ≤ k → to
 unfolding tokens
 no-token text words k h = no-kind words k h
 
--- a token stands before the end
-pub token-before : {t : ℕ → Tok} {fuel kind i n j : ℕ} → ((k : ℕ) → fuel ≤ k → t k .kind ≡ 0) → (kind ≡ 0 → ⊥) → Token t kind i n j → i < fuel
-token-before {fuel = fuel} {i = i} end n h = by (decLe fuel i)
-  where
-    by : Dec (fuel ≤ i) → i < fuel
-    by (yes p) = absurd (n (sym (token-kind h) ∙ end i p))
-    by (Dec.no p) = omega arith
-
 -- a reading of ARGS is answered, with as much fuel as there are tokens
 pub args-complete : {t : ℕ → Tok} {view : View} {fuel i j : ℕ} {s : Selector} → ((k : ℕ) → fuel ≤ k → t k .kind ≡ 0) →
     Args-of t view i s j → inputSelector t view fuel i ≡ ok s j
 unfolding inputSelector closeArgs
 args-complete {t} {view} {fuel} end (args {j = j} {k = k} {l = l} {xs = xs} left h allowed right g) =
     let new = allowed-fresh (view .repeats) allowed in
-    let few : length xs ≤ fuel = omega (arith, items-next new h, token-before end (λ e. omega arith) right) in
+    let few : length xs ≤ fuel = omega (arith, items-next new h, stands-before t end (λ e. omega arith) (token-kind right)) in
     let behind : t k .kind ≡ 11 → ⊥ = not-kind t 11 refl (token-kind right) in
     rw (kind-complete t refl left, args-items t view fuel noArgs 0 j, items-complete fuel noArgs few behind new h)
     (rw (kind-complete t refl right) (selected-complete k l g))

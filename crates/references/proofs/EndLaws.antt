@@ -2,7 +2,6 @@
 -- with these rules shows of the steps over tokens.
 use Prim.Native.Nat.{ℕ, _+_, _≤_}
 use native.Mathlib.Omega.{arith}
-use mathlib.Core.Path.{_≡_, refl}
 use mathlib.Core.Bool.{Bool, true, false}
 use mathlib.Core.List.{List, [], _∷_}
 use Rattle.text.specs.Choice.{pick}
@@ -16,12 +15,6 @@ use Rattle.sheet.specs.declared.resolve.Found.the-variants.{One, Refused}
 use Rattle.model.specs.declared.Selector.{Selector}
 use Rattle.references.specs.Refs.{checkedName, closedName, quotedName, devName, foundAt}
 use Rattle.references.specs.Args.{keySlot, namedSlot, unnamedSlot, slotAt, inputTypeValue, oneInstance}
-
--- two ways to go on that answer alike behind whatever is answered first
-pub bind-alike : {A B : Type 0} {P : A → ℕ → Type 0} (m : Res A) (f g : A → ℕ → Res B) → Okay P m →
-    ((a : A) (j : ℕ) → P a j → f a j ≡ g a j) → bind m f ≡ bind m g
-bind-alike (ok a j) f g h e = e a j h
-bind-alike (no r) f g h e = refl
 
 -- the next index, if there is a value, is i or behind it
 unfoldable pub Ends : {A : Type 0} → ℕ → Res A → Type 0

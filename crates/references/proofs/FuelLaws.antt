@@ -2,25 +2,17 @@
 use Prim.Native.Nat.{ℕ, zero, suc, _+_, _<_, _≤_}
 use native.Mathlib.Omega.{arith}
 use mathlib.Core.Path.{_≡_, refl, ap}
-use mathlib.Core.Bool.{Bool, true, false}
-use Rattle.tokens.specs.Result.{Res, bind, perhaps}
+use Rattle.tokens.specs.Result.{bind}
 use Rattle.tokens.specs.Kind.{OPEN, COMMA}
 use Rattle.tokens.specs.Cursor.{Tok, isKind, takeKind}
 use Rattle.tokens.specs.Grammar.{Token, token}
-use Rattle.tokens.proofs.Okay.{Okay, mapped, is-kind, kind-sound}
+use Rattle.tokens.proofs.Okay.{Okay, mapped, bind-alike, perhaps-alike, token-kind, stands-before, is-kind, kind-sound}
 use Rattle.sheet.specs.View.{View}
 use Rattle.references.specs.Args.{put, noArgs, argAt, countWith, argsFrom, closeArgs, inputSelector, oneInstance, inputRef}
 use Rattle.references.specs.declared.args.Args.{Args}
 use Rattle.references.specs.declared.args.Item.{Item}
-use Rattle.model.specs.declared.Selector.{Selector}
-use Rattle.references.proofs.EndLaws.{bind-alike}
 use Rattle.references.proofs.ArgSound.{arg-sound}
-use Rattle.references.proofs.ArgComplete.{arg-complete, token-before}
-
-perhaps-alike : {A : Type 0} (b : Bool) (i : ℕ) (f g : ℕ → Res A) (other : Res A) → (b ≡ true → f (i + 1) ≡ g (i + 1)) →
-    perhaps b i f other ≡ perhaps b i g other
-perhaps-alike true i f g other e = e refl
-perhaps-alike false i f g other e = refl
+use Rattle.references.proofs.ArgComplete.{arg-complete}
 
 token-is-one : {t : ℕ → Tok} {kind i n j : ℕ} → Token t kind i n j → j ≡ i + 1
 token-is-one (token p) = refl
@@ -39,7 +31,7 @@ module _ (t : ℕ → Tok) (view : View) {n : ℕ} (end : (k : ℕ) → n ≤ k 
       (λ x j next.
       perhaps-alike (isKind t COMMA j) j _ _ _
       (λ e.
-      let before : j < n = token-before end (λ z. omega arith) (is-kind t COMMA j e) in
+      let before : j < n = stands-before t end (λ z. omega arith) (token-kind (is-kind t COMMA j e)) in
       args-fuel m k (put a x) (countWith t count i) (j + 1) (omega arith) (omega arith) (omega arith)))
 
   -- ARGS are answered alike with any count that is at least the number of tokens
@@ -48,7 +40,7 @@ module _ (t : ℕ → Tok) (view : View) {n : ℕ} (end : (k : ℕ) → n ≤ k 
   selector-fuel {m} {k} p q i =
       bind-alike (takeKind t OPEN i) _ _ (kind-sound t OPEN i)
       (λ a j h.
-      let before : i < n = token-before end (λ z. omega arith) h in
+      let before : i < n = stands-before t end (λ z. omega arith) (token-kind h) in
       let next : j ≡ i + 1 = token-is-one h in
       ap (λ x. bind x (λ args l. closeArgs t view args l)) (args-fuel m k noArgs 0 j (omega arith) (omega arith) (omega arith)))
 

@@ -12,7 +12,7 @@ use Rattle.tokens.specs.declared.cursor.Refusal.{Refusal}
 use Rattle.tokens.specs.Result.{Res, ok, no, bind, perhaps, refuse}
 use Rattle.tokens.specs.Cursor.{Tok, isKind, isWord, takeKind}
 use Rattle.tokens.specs.Grammar.{Token, token, Word}
-use Rattle.tokens.proofs.Okay.{Okay, kind-sound, is-word}
+use Rattle.tokens.proofs.Okay.{Okay, bind-alike, kind-sound, is-word}
 use Rattle.sheet.specs.View.{View}
 use Rattle.references.specs.Refs.{nameOrId, adapterNumber, adapterAssign, adapterClause, scopeOrPrimary, referred, closeR, openR, reference, lampRef, groupRef, deviceRef, inputDeviceRef, lampTarget, groupTarget, broadcastTarget, lightTarget}
 use Rattle.references.specs.Args.{isDev, isNumber, deviceItem, instanceItem, groupItem, typeItem, adapterItem, itemAt, isRepeat, argAt, argsFrom, deviceInstance, withInst, withDev, withGroup, selected, closeArgs, inputSelector, inputRef}
@@ -25,7 +25,7 @@ use Rattle.references.specs.declared.args.Dev.{Dev}
 use Rattle.model.specs.declared.Number.{Number}
 use Rattle.model.specs.declared.Selector.{Selector}
 use Rattle.references.specs.declared.args.GroupArg.{GroupArg}
-use Rattle.references.proofs.EndLaws.{bind-alike, Ends, ends-earlier, ends-no, ends-bind, ends-pick, ends}
+use Rattle.references.proofs.EndLaws.{Ends, ends-earlier, ends-no, ends-bind, ends-pick, ends}
 
 -- the same of the sheet, with repeats or without, and with the forms where they are allowed
 abbrev pub allowing : View → Bool → (ℕ → Bool) → View

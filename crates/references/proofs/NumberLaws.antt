@@ -27,10 +27,10 @@ use Rattle.references.specs.declared.args.GroupArg.{GroupArg}
 use Rattle.model.specs.declared.Selector.{Selector}
 use Rattle.tokens.proofs.Okay.{both-true}
 
--- the numbers with which a rule is refused: 20 to 41, and of document 02 57 to 59, the shop profile's, 63, a repeated argument, and 64 to 66, which
--- are about topics
+-- the numbers with which a rule is refused: 20 to 41, and of document 02 50, a word that is no day, 57 to 59, the shop profile's, 63, a repeated
+-- argument, and 64 to 66, which are about topics
 abbrev pub isRefusal : ℕ → Bool
-isRefusal n = pick (within 20 41 n) true (pick (within 57 59 n) true (within 63 66 n))
+isRefusal n = pick (within 20 41 n) true (pick (within 50 50 n) true (pick (within 57 59 n) true (within 63 66 n)))
 
 -- a refusal, if it is one, has one of these numbers
 unfoldable pub Refuses : {A : Type 0} → Res A → Type 0
@@ -57,8 +57,9 @@ in-range low high n l m none e =
 late : (n : ℕ) → isRefusal n ≡ true → Late n
 late n =
     either-true (within 20 41 n) _ (Late n) (in-range 20 41 n (omega arith) (omega arith) (λ p q. omega arith))
+    (either-true (within 50 50 n) _ (Late n) (in-range 50 50 n (omega arith) (omega arith) (λ p q. omega arith))
     (either-true (within 57 59 n) _ (Late n) (in-range 57 59 n (omega arith) (omega arith) (λ p q. omega arith))
-    (in-range 63 66 n (omega arith) (omega arith) (λ p q. omega arith)))
+    (in-range 63 66 n (omega arith) (omega arith) (λ p q. omega arith))))
 
 -- each is 20 or more: none is a question that is put before the parser's
 pub refusal-least : (n : ℕ) → isRefusal n ≡ true → 20 ≤ n

@@ -1,7 +1,7 @@
 // The forms of an answer in the words of docs/REPLAY.md. A form has a line for each of its codes, in the order of include/tergyosul.h; show.rt says how a line is read. The lines of a
 // form stand behind its letter, and the forms that they use before it: Reading, Selector, Event, Light target, Bound, Value, Operand, Trigger, Condition.
 
-pub const FORMS: [u8; 1734] = *b"R
+pub const FORMS: [u8; 1750] = *b"R
 lamp_level #1 #2
 lamp_cct #1 #2
 lamp_is_on #1 #2
@@ -65,8 +65,8 @@ input_light_cross #1 #2 #3 |4|above|below #5
 input_position_change #1 #2 #3
 input_device_power_cycled #1 #2
 input_device_manual_config_changed #1 #2
-at_time #1
-at_solar |1|sunrise|sunset +2
+at_time #1 @2
+at_solar |1|sunrise|sunset +2 @3
 every #1
 lamp_turns #1 #2 |3|on|off
 lamp_level_cross #1 #2 |3|above|below #4
@@ -95,4 +95,5 @@ rule_enabled $1
 last_fired_older_than $1 #3
 timer_running $1
 controller_active
-var_compare $1 |3|eq|ne|ge|le|gt|lt O4";
+var_compare $1 |3|eq|ne|ge|le|gt|lt O4
+day_in *1";

@@ -25,6 +25,9 @@ pub const CONDITIONS: usize = 60;
 // The type of an instance group for which none is given.
 pub const NO_TYPE: u32 = 4294967295;
 
+// The set of all seven days: the sum of 1 for Monday, 2 for Tuesday, and so on to 64 for Sunday.
+pub const EVERY_DAY: u32 = 127;
+
 // How many values a word has.
 pub const VALUES: u64 = 4294967296;
 

@@ -60,3 +60,24 @@ pub fn hex(out: &mut [u8], at: usize, w: &[u8]) -> usize {
     }
     p
 }
+
+// A day's digit, if its bit is 1.
+fn day(out: &mut [u8], at: usize, digit: u8, bit: u32) -> usize {
+    if bit == 0 {
+        return at;
+    }
+    bytes(out, at, &[digit])
+}
+
+// A space and the days of a set, from its lowest bit on: 1 for Monday to 7 for Sunday.
+pub fn days(out: &mut [u8], at: usize, sum: u32) -> usize {
+    let mut p = bytes(out, at, b" ");
+    let mut left = sum;
+    let mut digit = b'1';
+    while digit <= b'7' {
+        p = day(out, p, digit, left % 2);
+        left = left / 2;
+        digit += 1;
+    }
+    p
+}

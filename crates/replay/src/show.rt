@@ -1,6 +1,7 @@
 // Lines of output from words. A line is given by its fields, which spaces part. The first byte of a field says what it is, and the second, a digit, which word it begins at:
 //   #  a number                   +  a signed number of one word     $  a range of the text's bytes: start and length
 //   ?  a number, or - for none    %  a signed number of two words    |  a choice of the words behind the digit, by a code from 1 on
+//   *  the days of a set          @  `on` and the days of a set, or nothing for all seven
 // A capital letter is a form: a code from 1 on, by which one of its lines is chosen; the fields of that line count the words from the code. All else is written as it stands.
 // Each field is written behind a space, unless it begins with a line end.
 use crate::layout;
@@ -59,6 +60,15 @@ fn perhaps(out: &mut [u8], at: usize, n: u32) -> usize {
     out::signed(out, at, n, 0)
 }
 
+// `on` and the days of a set; nothing for all seven.
+fn on_days(out: &mut [u8], at: usize, sum: u32) -> usize {
+    if sum == layout::EVERY_DAY {
+        return at;
+    }
+    let p = out::word(out, at, b"on");
+    out::days(out, p, sum)
+}
+
 // A range of the text's bytes.
 fn range(out: &mut [u8], at: usize, text: &[u8], start: u32, length: u32) -> usize {
     let first = start as usize;
@@ -74,6 +84,8 @@ fn plain(out: &mut [u8], at: usize, text: &[u8], words: &[u32], i: usize, field:
     match kind {
         b'#' | b'+' | b'%' => out::signed(out, at, low, high(kind, low, next)),
         b'?' => perhaps(out, at, low),
+        b'*' => out::days(out, at, low),
+        b'@' => on_days(out, at, low),
         b'$' => range(out, at, text, low, next),
         b'|' => out::word(out, at, list::item(field, b'|', low as usize + 1)),
         _ => out::word(out, at, field),

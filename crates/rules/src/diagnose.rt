@@ -52,7 +52,7 @@ fn line(text: &[u8], words: &[u32], f: Fault) {
 
 // Is the refusal one for which it helps to say what belongs there?
 fn is_asked(number: u32) -> bool {
-    number == 20 || number == 21 || number == 38 || number == 40 || number == 41
+    number == 20 || number == 21 || number == 38 || number == 40 || number == 41 || number == 50
 }
 
 fn belonging(text: &[u8], sheet: &[u8], words: &[u32], f: Fault) {

@@ -3,6 +3,7 @@
 // and 66 would come before the candidate.
 use crate::fault::Fault;
 use crate::items;
+use crate::items::END;
 use crate::layout;
 use crate::marks;
 use crate::near;
@@ -100,7 +101,7 @@ fn mark(
     marks: &mut [u8],
 ) {
     let mut k = 0;
-    while k < 127 {
+    while k < END {
         let candidate = split::word(list, k);
         let is_in = belongs(trial, start, candidate, sheet, words, line, call);
         marks::set(marks, k, is_in);
@@ -108,16 +109,16 @@ fn mark(
     }
 }
 
-// The index of a candidate in the list; 127 where there is none.
+// The index of a candidate in the list; END where there is none.
 fn index_of(list: &[u8], candidate: &[u8]) -> usize {
     let mut k = 0;
-    while k < 127 {
+    while k < END {
         if text::part::same(split::word(list, k), candidate) {
             return k;
         }
         k += 1;
     }
-    127
+    END
 }
 
 // In the shop's call, unmarks what the profile leaves out, which it refuses only in a whole rule: `broadcast`; `event` where a reading may begin, as with `var`; and
@@ -137,22 +138,22 @@ fn leave_out(list: &[u8], call: Call, marks: &mut [u8]) {
     }
 }
 
-// The index of a marked candidate that nearly is the word; 128 where there is none.
+// The index of a marked candidate that nearly is the word; END where there is none.
 fn near_item(list: &[u8], marks: &[u8], word: &[u8]) -> usize {
     let mut k = 4;
-    while k < 127 {
+    while k < END {
         if marks::has(marks, k) && near::is_near(split::word(list, k), word) {
             return k;
         }
         k += 1;
     }
-    128
+    END
 }
 
 // If a word stands there that nearly is one of the candidates: that one.
 fn suggestion(list: &[u8], marks: &[u8], word: &[u8], line: u32) {
     let k = near_item(list, marks, word);
-    if k == 128 {
+    if k == END {
         return;
     }
     source::margin(line, b'=');
@@ -161,9 +162,10 @@ fn suggestion(list: &[u8], marks: &[u8], word: &[u8], line: u32) {
     out::bytes(b"?\n");
 }
 
-// The bytes of the token at the place, which may be a slip; none at the end of the text, and none for 40, whose words are no slips.
+// The bytes of the token at the place, which may be a slip; none at the end of the text, none for 40, whose word is no slip, and none for 50, whose help
+// says which day is meant.
 fn word_at<'a, 'b>(text: &'a [u8], words: &'b [u32], f: Fault) -> &'a [u8] {
-    if f.number != 40 && f.token < f.count {
+    if f.number != 40 && f.number != 50 && f.token < f.count {
         return tokens::record::bytes(text, words, f.token);
     }
     &text[..0]
@@ -184,10 +186,10 @@ fn lines(list: &[u8], marks: &[u8], word: &[u8], line: u32) {
 // Asks the reader for each candidate and for the end of the text.
 pub fn show(text: &[u8], sheet: &[u8], words: &[u32], f: Fault) {
     let list =
-        b"\"x\" 1 12:00 1s when if and timer rule controller http mqtt every at scene device group hcl lamp input last_fired sun time var event sunrise sunset fires fails starts becomes active trigger recalled goes offline comes online any_on all_off override clears for broadcast turns on off crosses above below power cycled manual config changed changes is press release short_press double_press long_press_start long_press_repeat long_press_stop button_free button_stuck movement no_movement any_event occupied vacant running enabled overridden older than up down in level cct is_on last_level member_count light position last_event_age now hour minute weekday rise set is_up value instance option button absolute occupancy dev= inst= group= type= adapter= data= ( ) , . .. = == != >= <= > < + -";
+        b"\"x\" 1 12:00 1s when if and timer rule controller http mqtt every at scene device group hcl lamp input last_fired mon tue wed thu fri sat sun time day var event sunrise sunset fires fails starts becomes active trigger recalled goes offline comes online any_on all_off override clears for broadcast turns on off crosses above below power cycled manual config changed changes is press release short_press double_press long_press_start long_press_repeat long_press_stop button_free button_stuck movement no_movement any_event occupied vacant running enabled overridden older than up down in level cct is_on last_level member_count light position last_event_age now hour minute weekday rise set is_up value instance option button absolute occupancy dev= inst= group= type= adapter= data= ( ) , . .. = == != >= <= > < + -";
     let mut trial = [0u8; 20000];
     let mut trial_words = [0u32; tokens::lexer::LEAST_WORDS];
-    let mut marks = [0u8; 128];
+    let mut marks = [0u8; END + 1];
     let start = trial::bytes(&mut trial, 0, text::part::part(text, 0, f.at));
     mark(
         list,
@@ -201,6 +203,6 @@ pub fn show(text: &[u8], sheet: &[u8], words: &[u32], f: Fault) {
     );
     leave_out(list, f.call, &mut marks);
     let is_in = may_end(&trial, start, sheet, &mut trial_words, f.call);
-    marks::set(&mut marks, 127, is_in);
+    marks::set(&mut marks, END, is_in);
     lines(list, &marks, word_at(text, words, f), f.line);
 }

@@ -13,7 +13,7 @@ controller controller starts` or `controller becomes active
 http http trigger
 mqtt mqtt \"till/close\"
 every every 15m
-at at 21:30` or `at sunset - 30m
+at at 21:30`, `at sunset - 30m` or `at 7:05 on mon..fri, sun
 scene scene(3) recalled
 device device(\"Gateway\") goes offline` or `comes online
 group group(\"Sales floor\") becomes all_off` or `any_on
@@ -33,6 +33,7 @@ last_fired last_fired(\"Night\") older than 10m
 device device(\"Gateway\") is online
 sun sun is up` or `sun is down
 time time in 21:00..sunrise + 30m
+day day in mon..fri, sun
 group group(\"Sales floor\") any_on` or `all_off
 hcl hcl is overridden for group(\"Sales floor\")
 lamp lamp(\"Till\") is on` or `lamp(\"Till\").level >= 100

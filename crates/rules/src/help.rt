@@ -1,4 +1,5 @@
 // The way out of each refusal, in one line.
+use crate::day;
 use crate::fault::Fault;
 use crate::forms;
 use crate::lookup;
@@ -42,9 +43,18 @@ fn of_form(number: u32) {
 37 split the rule in two
 38 put a trigger first, as in `when lamp(\"Till\") turns on`
 39 split the rule in two
-40 leave it out: there are no days of the week after a time, no `day`, and no `is` behind a topic
+40 leave it out: what the message says is not asked
 63 leave one of them out";
     out::entry(table, number);
+}
+
+// 20, 21 and 50: what is written in the place of what stands there.
+fn of_place(text: &[u8], words: &[u32], f: Fault) {
+    if f.number == 50 {
+        day::help(text, words, f);
+        return;
+    }
+    forms::show(text, words, f);
 }
 
 pub fn show(text: &[u8], sheet: &[u8], lent: &[u8], words: &[u32], f: Fault) {
@@ -56,8 +66,8 @@ pub fn show(text: &[u8], sheet: &[u8], lent: &[u8], words: &[u32], f: Fault) {
         of_input(f.number);
         return;
     }
-    if f.number == 20 || f.number == 21 {
-        forms::show(text, words, f);
+    if f.number == 20 || f.number == 21 || f.number == 50 {
+        of_place(text, words, f);
         return;
     }
     if f.number == 22 {

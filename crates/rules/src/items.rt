@@ -11,6 +11,9 @@ pub struct Written {
     pub adapter: u32,
 }
 
+// The member behind all candidates, of which there are at most so many.
+pub const END: usize = 255;
+
 pub fn key(k: usize) {
     out::bytes(b"adapter=");
     out::number(k as u64);
@@ -52,9 +55,9 @@ fn reference(name: &[u8], w: Written, k: usize) {
     out::byte(b')');
 }
 
-// A word of the list of candidates, or what it stands for.
+// A word of the list of candidates, or what it stands for, as END does for the end of the text.
 fn candidate(list: &[u8], k: usize) {
-    if 3 < k && k < 127 {
+    if 3 < k && k < END {
         out::backquoted(split::word(list, k));
         return;
     }

@@ -1,6 +1,7 @@
 // The program `rules`: checks a rule against a name sheet, for whoever writes the two. `rules help` says how it is called.
 mod chain_list;
 mod checking;
+mod day;
 mod diagnose;
 mod expected;
 mod fault;
@@ -64,10 +65,12 @@ lamp sun time is in on off up down sunrise sunset level and 0 63 64 ( ) . .. == 
 Shorter ones come first, then they follow the order of this line, word by word.
 
 check prints each trigger and each condition in plain words, or one refusal: its place, what stands there, what
-belongs there, and a way out. The last line begins with `accepted`, or with `refused` and the refusal's number; if the
-arguments are bad or a file cannot be read, it says that behind `refused`. The exit status of this program is always 0,
-since its language cannot set another. The script ./rules, which runs it, gives 0 for accepted, 1 for refused, 2 for bad
-arguments and for files that cannot be read.
+belongs there, and a way out. Days, as in `at 7:05 on sun, mon..fri` or `day in sat, sun`, are shown from Monday to
+Sunday however the rule has them, three or more in a row by the first and the last: `mon to fri, sun`. The last line
+begins with `accepted`, or with `refused` and the refusal's number; if the arguments are bad or a file cannot be read,
+it says that behind `refused`. The exit status of this program is always 0, since its language cannot set another. The
+script ./rules, which runs it, gives 0 for accepted, 1 for refused, 2 for bad arguments and for files that cannot be
+read.
 ",
     );
 }

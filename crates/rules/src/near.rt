@@ -56,6 +56,14 @@ pub fn is_near(a: &[u8], b: &[u8]) -> bool {
     differ_by_one(a.len(), b.len(), front + back)
 }
 
+// Is a word of two bytes or more the front of another, not counting case?
+pub fn is_front(a: &[u8], b: &[u8]) -> bool {
+    if a.len() < 2 {
+        return false;
+    }
+    common(a, b, false) == a.len()
+}
+
 // Do two words differ in one byte at most that have these lengths, at most 48, and so many bytes in common?
 fn differ_by_one(a: usize, b: usize, all: usize) -> bool {
     if b < a {

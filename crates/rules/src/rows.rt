@@ -13,8 +13,8 @@ fn trigger(text: &[u8], sheet: &[u8], answer: &[u32], row: usize) {
 4 when the position of %I1 changes
 5 when %i1 is power cycled
 6 when %i1 has its manual config changed
-7 when at %c1
-8 when at %s1
+7 when at %c1%o2
+8 when at %s1%y2
 9 when every %m1
 10 when %l1 turns %L3
 11 when the level of %l1 crosses %W3 %n4
@@ -49,7 +49,8 @@ fn condition(text: &[u8], sheet: &[u8], answer: &[u32], row: usize) {
 12 rule %q1 last fired more than %m3 ago
 13 timer %q1 is running
 14 the controller is active
-15 var %q1 %C3 %v4";
+15 var %q1 %C3 %v4
+16 the day is in %w1";
     let sentence = split::numbered(table, layout::get(answer, row, 0));
     say::show(text, sheet, answer, row, sentence);
 }

@@ -1,5 +1,6 @@
 // Sentences with parts to fill in. A part is `%`, a letter and a digit. The digit is the index of the word in a row of numbers at which the part begins;
 // the letter says what it is: `part`, `of_row` and `choice` have the letters.
+use crate::day;
 use crate::inputs;
 use crate::items;
 use crate::layout;
@@ -72,6 +73,9 @@ fn of_row(answer: &[u32], row: usize, letter: &[u8], k: usize) {
         b'm' => parts::duration(n),
         b's' => parts::solar(answer, row, k),
         b'b' => parts::bound(answer, row, k),
+        b'w' => day::set(n),
+        b'o' => day::on(n),
+        b'y' => day::behind_offset(answer, row, k),
         b'E' => inputs::event(answer, row, k),
         _ => choice(letter, n),
     }

@@ -96,8 +96,9 @@ fn of_form(number: u32) {
 37 a rule has at most four triggers, and this `when` is the fifth
 38 a rule begins with `when`
 39 a rule has at most four conditions, and this `and` begins the fifth
-40 this form is left out of the language
+40 `is` behind a topic is left out of the language
 41 the text goes on after the rule
+50 this word is no day of the week
 63 this argument is given twice";
     out::entry(table, number);
 }

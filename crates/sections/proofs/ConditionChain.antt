@@ -32,6 +32,7 @@ use Rattle.model.specs.declared.LampProperty.{LampProperty}
 use Rattle.model.specs.declared.Comparison.{Comparison}
 use Rattle.model.specs.declared.Operand.{Operand}
 use Rattle.model.specs.declared.Condition.the-variants.{SunIs, LampIs, LampCompare, GroupState, InputOccupancy, InputLight, HclState, RuleEnabled, LastFiredOlderThan, TimerRunning}
+use Rattle.days.proofs.DaysChain.{then-days, stop-days}
 use Rattle.language.specs.Condition.{comparisonBy, comparisonAt, varCompared}
 use Rattle.sections.proofs.AnswerChain.{then-bound, stop-bound, then-value, stop-value, comparison-ok, comparison-no, then-comparison, stop-comparison, operand-ok, operand-no, operand-same, then-operand, stop-operand, condition-ok, condition-no, condition-same, eq-other, refused}
 
@@ -135,8 +136,8 @@ pub ruleset phrases = (
   fired-made,
 )
 
--- time bounds
-pub ruleset times = (then-taken, stop-taken, then-bound, stop-bound, condition-ok, condition-no, condition-same)
+-- time bounds and day sets
+pub ruleset times = (then-taken, stop-taken, then-bound, stop-bound, then-days, stop-days, condition-ok, condition-no, condition-same)
 
 -- one word of a pair
 pub ruleset states = (

@@ -11,7 +11,6 @@ use Rattle.text.proofs.Tests.{lt-yes, lt-no, eq-yes, eq-no, told-yes, told-no}
 use Rattle.text.specs.Choice.{pick}
 use Rattle.tokens.specs.Result.{Res, ok, no, refuse}
 use Rattle.tokens.specs.declared.cursor.Refusal.{Refusal}
-use Rattle.tokens.specs.Cursor.{Tok}
 use Rattle.tokens.proofs.Chain.{taken-ok, taken-no, then-taken, stop-taken, perhaps-yes, perhaps-no}
 use Rattle.references.proofs.RefChain.{then-index, stop-index, then-scope, stop-scope, then-ref, stop-ref, then-target, stop-target}
 use Rattle.references.proofs.ArgChain.{then-selector, stop-selector, then-input, stop-input}
@@ -19,6 +18,7 @@ use Rattle.model.specs.declared.Name.{Name}
 use Rattle.model.specs.declared.Ref.{Ref}
 use Rattle.model.specs.declared.InputRef.{InputRef}
 use Rattle.model.specs.declared.LightTarget.{LightTarget}
+use Rattle.model.specs.declared.Days.{Days}
 use Rattle.model.specs.declared.SolarEvent.{SolarEvent}
 use Rattle.model.specs.declared.TimeBound.{TimeBound}
 use Rattle.model.specs.declared.Event.{Event}
@@ -31,7 +31,8 @@ use Rattle.model.specs.declared.Override.{Override}
 use Rattle.model.specs.declared.Trigger.{Trigger}
 use Rattle.model.specs.declared.Trigger.the-variants.{InputOccupancy, InputLightCross, AtSolar, LampTurns, LampLevelCross, GroupBecomes, SceneRecalled, DeviceOnline, HclOverride, TimerFires, RuleFails, MqttMessage}
 use Rattle.topics.specs.Topic.{topicNumber}
-use Rattle.language.specs.Trigger.{atBound}
+use Rattle.days.proofs.DaysChain.{then-days, stop-days}
+use Rattle.language.specs.Trigger.{atOn}
 use Rattle.sections.proofs.AnswerChain.{then-bound, stop-bound, event-ok, event-no, event-same, then-event, stop-event, trigger-ok, trigger-no, trigger-same, eq-other, refused}
 
 -- the bytes p of a string are judged as a topic: q is what the code has of them, and r is its number
@@ -47,8 +48,8 @@ module _ (p : List ℕ) {q : List ℕ} {r : ℕ} (number : r ≡ topicNumber q) 
   topic-refused i e = rw (e, number, same)
 
 -- a value x that the code takes apart: it was v, so the definition goes by v
-pub by-bound : (t : ℕ → Tok) (i : ℕ) (x : TimeBound) {v : TimeBound} {y : Res Trigger} → x ≡ v → y ≡ atBound t i v → y ≡ atBound t i x
-by-bound t i x was h = rw was h
+pub by-bound : (x : TimeBound) (days : Days) {v : TimeBound} {y : Trigger} → x ≡ v → y ≡ atOn v days → y ≡ atOn x days
+by-bound x days was h = rw was h
 
 -- an answer that a function gave
 pub made : (v : Trigger) (j : ℕ) {x : Trigger} → x ≡ v → ok x j ≡ ok v j
@@ -92,8 +93,8 @@ pub occupancy-made : (r : InputRef) (o : Occupancy) (j : ℕ) {x : Occupancy} �
 occupancy-made r o j e = rw e
 
 -- an offset that was held in 32 signed bits
-pub solar-kept : (event : SolarEvent) (z : ℤ) (j : ℕ) → SFits w32 z → ok (AtSolar event (toZ w32 (ofZ w32 z))) j ≡ ok (AtSolar event z) j
-solar-kept event z j fits = ap (λ (x : ℤ). ok (AtSolar event x) j) (toZ-ofZ fits)
+pub solar-kept : (event : SolarEvent) (z : ℤ) (days : Days) → SFits w32 z → AtSolar event (toZ w32 (ofZ w32 z)) days ≡ AtSolar event z days
+solar-kept event z days fits = ap (λ (x : ℤ). AtSolar event x days) (toZ-ofZ fits)
 
 -- a name or a choice alone
 pub ruleset phrases = (then-taken, stop-taken, then-index, stop-index, trigger-ok, trigger-no, made, timer-made, rule-made)
@@ -111,10 +112,14 @@ pub ruleset times = (
   trigger-ok,
   trigger-no,
   trigger-same,
-  by-bound,
-  solar-kept,
+  then-days,
+  stop-days,
+  made,
   refused,
 )
+
+-- a time bound and days as a trigger
+pub ruleset bounds = (by-bound, solar-kept)
 
 -- a quoted topic
 pub ruleset topics = (taken-ok, taken-no, then-taken, stop-taken, topic-yes, topic-no, topic-refused)

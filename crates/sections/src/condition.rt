@@ -7,6 +7,7 @@ use crate::timeval;
 use crate::timeval::BoundAnswer;
 use crate::trigger;
 use crate::words;
+use days::DaysAnswer;
 use model::Comparison;
 use model::Condition;
 use model::Hcl;
@@ -35,7 +36,7 @@ ghost use Rattle.tokens.specs.Cursor.{tokens};
 ghost use Rattle.tokens.specs.Record.{capacity};
 ghost use Rattle.sheet.specs.View.{viewOf};
 ghost use Rattle.language.specs.Range.{rangeOf};
-ghost use Rattle.language.specs.Condition.{comparisonAt, controllerCondition, timerCondition, ruleCondition, lastFiredCondition, deviceCondition, sunOf, sunCondition, timeTo, timeCondition, groupCondition, hclOf, hclCondition, lampPropertyOf, lampJudged, lampCompared, lampPoint, lampState, lampCondition, lightThan, inputState, inputCondition, textOperand, operandAt, varCompared, varCondition, conditionBy, conditionAt};
+ghost use Rattle.language.specs.Condition.{comparisonAt, controllerCondition, timerCondition, ruleCondition, lastFiredCondition, deviceCondition, sunOf, sunCondition, timeTo, timeCondition, dayCondition, groupCondition, hclOf, hclCondition, lampPropertyOf, lampJudged, lampCompared, lampPoint, lampState, lampCondition, lightThan, inputState, inputCondition, textOperand, operandAt, varCompared, varCondition, conditionBy, conditionAt};
 ghost use Rattle.sections.specs.Answers.{toComparison, toOperand, toCondition};
 
 // The longest text of a var, in bytes.
@@ -244,6 +245,26 @@ fn time_condition(c: Cursor, text: &[u8], words: &[u32]) -> ConditionAnswer
             match bound {
                 BoundAnswer::No(refusal) => return ConditionAnswer::No(refusal),
                 BoundAnswer::Got(start, behind) => return time_to(behind, text, words, start),
+            }
+        }
+    }
+}
+
+// day in a day set.
+fn day_condition(c: Cursor, text: &[u8], words: &[u32]) -> ConditionAnswer
+    ensures { λ r. ⌜ r ≡ toCondition (dayCondition (tokens (now (text .entry)) (now (words .entry))) (capacity (now (words .entry))) (c .index)) ⌝ }
+{
+    let within = c.expect_kw(text, words, b"in");
+    match within {
+        Taken::No(refusal) => return ConditionAnswer::No(refusal),
+        Taken::Got(_, next) => {
+            let set = days::day_set(next, text, words);
+            match set {
+                DaysAnswer::No(refusal) => return ConditionAnswer::No(refusal),
+                DaysAnswer::Got(days, behind) => return ConditionAnswer::Got(
+                    Condition::DayIn(days),
+                    behind,
+                ),
             }
         }
     }
@@ -587,9 +608,8 @@ fn var_condition(
     }
 }
 
-// The condition with the n-th first word, at the token i. The last of them, day, is refused with 40.
+// The condition with the n-th first word.
 fn condition_by(
-    i: usize,
     n: u32,
     behind: Cursor,
     text: &[u8],
@@ -597,7 +617,7 @@ fn condition_by(
     s: &[u8],
     settings: Settings,
 ) -> ConditionAnswer
-    ensures { λ r. ⌜ r ≡ toCondition (conditionBy (tokens (now (text .entry)) (now (words .entry))) (viewOf settings (now (s .entry))) (rangeOf (now (words .entry))) (capacity (now (words .entry))) i n (behind .index)) ⌝ }
+    ensures { λ r. ⌜ r ≡ toCondition (conditionBy (tokens (now (text .entry)) (now (words .entry))) (viewOf settings (now (s .entry))) (rangeOf (now (words .entry))) (capacity (now (words .entry))) n (behind .index)) ⌝ }
 {
     match n {
         0 => return time_condition(behind, text, words),
@@ -612,7 +632,7 @@ fn condition_by(
         9 => return timer_condition(behind, text, words),
         10 => return controller_condition(behind, text, words),
         11 => return var_condition(behind, text, words, s, settings),
-        _ => return ConditionAnswer::No(tokens::cursor::refuse(40, i)),
+        _ => return day_condition(behind, text, words),
     }
 }
 
@@ -626,10 +646,9 @@ pub fn condition_at(
 ) -> ConditionAnswer
     ensures { λ r. ⌜ r ≡ toCondition (conditionAt (tokens (now (text .entry)) (now (words .entry))) (viewOf settings (now (s .entry))) (rangeOf (now (words .entry))) (capacity (now (words .entry))) (c .index)) ⌝ }
 {
-    let i = c.index;
     let word = first::condition_word(c, text, words);
     match word {
         Taken::No(refusal) => return ConditionAnswer::No(refusal),
-        Taken::Got(n, behind) => return condition_by(i, n, behind, text, words, s, settings),
+        Taken::Got(n, behind) => return condition_by(n, behind, text, words, s, settings),
     }
 }

@@ -4,8 +4,10 @@ use crate::name;
 use crate::timeval;
 use crate::timeval::BoundAnswer;
 use crate::words;
+use days::DaysAnswer;
 use model::Aggregate;
 use model::Crossing;
+use model::Days;
 use model::Event;
 use model::InputRef;
 use model::Occupancy;
@@ -36,7 +38,7 @@ ghost use Rattle.tokens.specs.Cursor.{tokens, toTaken};
 ghost use Rattle.tokens.specs.Record.{capacity};
 ghost use Rattle.sheet.specs.View.{viewOf};
 ghost use Rattle.language.specs.Range.{rangeOf};
-ghost use Rattle.language.specs.Trigger.{powerOf, crossingOf, occupancyOf, aggregateOf, onlineOf, overrideOf, timerTrigger, ruleTrigger, controllerChange, controllerTrigger, httpTrigger, topicAt, mqttTrigger, everyTrigger, atBound, atTrigger, sceneClosed, sceneTrigger, deviceTrigger, groupTrigger, hclTrigger, levelCross, lampChange, lampTrigger, inputDeviceChange, inputDeviceTrigger, rawData, rawEvent, eventOf, eventAt, inputEvent, inputBecomes, lightCross, positionChange, propertyTrigger, pointTrigger, inputChange, inputTrigger, triggerBy, triggerAt};
+ghost use Rattle.language.specs.Trigger.{powerOf, crossingOf, occupancyOf, aggregateOf, onlineOf, overrideOf, timerTrigger, ruleTrigger, controllerChange, controllerTrigger, httpTrigger, topicAt, mqttTrigger, everyTrigger, atOn, atBound, atTrigger, sceneClosed, sceneTrigger, deviceTrigger, groupTrigger, hclTrigger, levelCross, lampChange, lampTrigger, inputDeviceChange, inputDeviceTrigger, rawData, rawEvent, eventOf, eventAt, inputEvent, inputBecomes, lightCross, positionChange, propertyTrigger, pointTrigger, inputChange, inputTrigger, triggerBy, triggerAt};
 ghost use Rattle.sections.specs.Answers.{toEvent, toTrigger};
 
 // The shortest period, in milliseconds.
@@ -221,26 +223,29 @@ fn every_trigger(c: Cursor, text: &[u8], words: &[u32]) -> TriggerAnswer
     }
 }
 
-// What follows a time bound: `on` after a time is refused with 40.
-fn at_bound(c: Cursor, text: &[u8], words: &[u32], bound: TimeBound) -> TriggerAnswer
-    ensures { λ r. ⌜ r ≡ toTrigger (atBound (tokens (now (text .entry)) (now (words .entry))) (c .index) bound) ⌝ }
+// A time of day or a solar event, on these days.
+fn at_on(bound: TimeBound, days: Days) -> Trigger
+    ensures { λ r. ⌜ r ≡ atOn bound days ⌝ }
 {
     match bound {
-        TimeBound::Clock(m) => {
-            if c.peek_kw(text, words, b"on") {
-                return TriggerAnswer::No(tokens::cursor::refuse(40, c.index));
-            }
-            return TriggerAnswer::Got(Trigger::AtTime(m), c);
-        }
-        TimeBound::Solar(event, offset) => return TriggerAnswer::Got(
-            Trigger::AtSolar(event, offset),
-            c,
-        ),
+        TimeBound::Clock(m) => return Trigger::AtTime(m, days),
+        TimeBound::Solar(event, offset) => return Trigger::AtSolar(event, offset, days),
+    }
+}
+
+// The days behind a time bound.
+fn at_bound(c: Cursor, text: &[u8], words: &[u32], bound: TimeBound) -> TriggerAnswer
+    ensures { λ r. ⌜ r ≡ toTrigger (atBound (tokens (now (text .entry)) (now (words .entry))) (capacity (now (words .entry))) bound (c .index)) ⌝ }
+{
+    let on = days::on_days(c, text, words);
+    match on {
+        DaysAnswer::No(refusal) => return TriggerAnswer::No(refusal),
+        DaysAnswer::Got(days, behind) => return TriggerAnswer::Got(at_on(bound, days), behind),
     }
 }
 
 fn at_trigger(c: Cursor, text: &[u8], words: &[u32]) -> TriggerAnswer
-    ensures { λ r. ⌜ r ≡ toTrigger (atTrigger (tokens (now (text .entry)) (now (words .entry))) (c .index)) ⌝ }
+    ensures { λ r. ⌜ r ≡ toTrigger (atTrigger (tokens (now (text .entry)) (now (words .entry))) (capacity (now (words .entry))) (c .index)) ⌝ }
 {
     let bound = timeval::time_bound(c, text, words);
     match bound {

@@ -1,10 +1,11 @@
 -- A set of adapters as the code keeps it, one bit for each. Nothing here need be believed: `has-packed` shows what it comes to.
-use Prim.Native.Nat.{ℕ, zero, suc, _+_, _*_, _/_, _%_, _^_}
+use Prim.Native.Nat.{ℕ, zero, suc, _+_, _/_, _%_}
 use mathlib.Core.List.{List, [], _∷_}
 use mathlib.Core.Bool.{Bool, false}
 use lib.Dec.{eqb, leb}
 use lib.ListN.{getD}
 use Rattle.text.specs.Choice.{pick}
+use Rattle.text.specs.Bits.{bitsFrom, digit}
 use Rattle.model.specs.Limits.{lastAdapter}
 use Rattle.sheet.specs.declared.adapters.Adapters.{Adapters}
 
@@ -16,13 +17,9 @@ abbrev pub setWords : ℕ
 setWords = 8
 
 unfoldable pub has : Adapters → ℕ → Bool
-has set a = pick (leb a lastAdapter) (eqb (getD (set .words) (a / wordBits) 0 / 2 ^ (a % wordBits) % 2) 1) false
+has set a = pick (leb a lastAdapter) (eqb (digit (getD (set .words) (a / wordBits) 0) (a % wordBits)) 1) false
 
--- so many bits, the lowest that of n
-unfoldable pub bitsFrom : (ℕ → Bool) → ℕ → ℕ → ℕ
-bitsFrom in-set n zero = 0
-bitsFrom in-set n (suc count) = pick (in-set n) 1 0 + 2 * bitsFrom in-set (suc n) count
-
+-- the words of a set from the adapter n on
 unfoldable pub wordsFrom : (ℕ → Bool) → ℕ → ℕ → List ℕ
 wordsFrom in-set n zero = []
 wordsFrom in-set n (suc count) = bitsFrom in-set n wordBits ∷ wordsFrom in-set (n + wordBits) count

@@ -14,4 +14,5 @@ pub mod FindLaws
 pub mod SplitLaws
 pub mod BlockLaws
 pub mod SameLaws
+pub mod BitLaws
 pub mod Examples

@@ -10,3 +10,4 @@ pub mod Part
 pub mod Find
 pub mod Split
 pub mod Block
+pub mod Bits

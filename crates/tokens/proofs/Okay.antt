@@ -1,7 +1,8 @@
 -- What a definition accepts, and the grammar's readings: the rules for every reader over tokens. Soundness goes by Okay, one rule for each
 -- way in which a definition is built; completeness rewrites by the tests and steps below.
-use Prim.Native.Nat.{ℕ, _+_, _≤_}
+use Prim.Native.Nat.{ℕ, _+_, _≤_, _<_}
 use native.Mathlib.Omega.{arith}
+use native.Mathlib.Decide.{decLe}
 use mathlib.Core.Path.{_≡_, refl, sym, _∙_, subst}
 use mathlib.Core.Bool.{Bool, true, false}
 use mathlib.Core.List.{List}
@@ -43,6 +44,17 @@ mapped Q (no r) h f = tt
 pub okay : {A : Type 0} (P : A → ℕ → Type 0) {m : Res A} {v : A} {j : ℕ} → Okay P m → m ≡ ok v j → P v j
 okay P h e = subst (λ m. Okay P m) e h
 
+-- two ways to go on that answer alike behind whatever is answered first, or behind a token that may stand here
+pub bind-alike : {A B : Type 0} {P : A → ℕ → Type 0} (m : Res A) (f g : A → ℕ → Res B) → Okay P m →
+    ((a : A) (j : ℕ) → P a j → f a j ≡ g a j) → bind m f ≡ bind m g
+bind-alike (ok a j) f g h e = e a j h
+bind-alike (no r) f g h e = refl
+
+pub perhaps-alike : {A : Type 0} (b : Bool) (i : ℕ) (f g : ℕ → Res A) (other : Res A) → (b ≡ true → f (i + 1) ≡ g (i + 1)) →
+    perhaps b i f other ≡ perhaps b i g other
+perhaps-alike true i f g other e = e refl
+perhaps-alike false i f g other e = refl
+
 -- the two ways in which tests are joined
 pub both-true : (x y : Bool) → pick x y false ≡ true → (x ≡ true) × (y ≡ true)
 both-true true y e = (refl, e)
@@ -58,6 +70,14 @@ token-kind (token p) = p
 
 pub word-kind : {t : ℕ → Tok} {word : List ℕ} {i j : ℕ} → Word t word i j → t i .kind ≡ 1
 word-kind (a-word p q) = p
+
+-- where no token stands at n or behind it, each stands before n
+pub stands-before : (t : ℕ → Tok) {n i kind : ℕ} → ((k : ℕ) → n ≤ k → t k .kind ≡ 0) → (kind ≡ 0 → ⊥) → t i .kind ≡ kind → i < n
+stands-before t {n} {i} end some e = by (decLe n i)
+  where
+    by : Dec (n ≤ i) → i < n
+    by (yes p) = absurd (some (sym e ∙ end i p))
+    by (Dec.no p) = omega arith
 
 -- The tests on a token: what they show, and what they answer. Kinds are literals above 0, so that `refl` shows it.
 module _ (t : ℕ → Tok) where

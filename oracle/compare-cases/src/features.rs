@@ -1,6 +1,6 @@
 //! What a case covered, read off its answer in the replay format, and off its text for what the answer does not say.
 
-use crate::{durations, parties, profile, records, repeats, sheets, topics};
+use crate::{days, durations, parties, profile, records, repeats, sheets, topics};
 use cases::Case;
 use std::io::{self, Write};
 
@@ -11,8 +11,8 @@ const TOKENS: &[&str] = &[
 /// The refusals of document 01, without 5 to 9 and 14, and of document 02.
 const REFUSALS: &[&str] = &[
     "1", "2", "3", "4", "10", "11", "12", "13", "15", "16", "17", "18", "19", "20", "21", "22", "23", "24", "25", "26", "27",
-    "28", "29", "30", "31", "32", "33", "34", "35", "36", "37", "38", "39", "40", "41", "53", "57", "58", "59", "63", "64", "65",
-    "66",
+    "28", "29", "30", "31", "32", "33", "34", "35", "36", "37", "38", "39", "40", "41", "50", "53", "57", "58", "59", "63", "64",
+    "65", "66",
 ];
 
 const TRIGGERS: &[&str] = &[
@@ -23,7 +23,7 @@ const TRIGGERS: &[&str] = &[
 ];
 
 const CONDITIONS: &[&str] = &[
-    "time_in_range", "sun_is", "lamp_is", "lamp_level", "lamp_cct", "group_state", "input_occupancy", "input_light",
+    "time_in_range", "day_in", "sun_is", "lamp_is", "lamp_level", "lamp_cct", "group_state", "input_occupancy", "input_light",
     "hcl_state", "device_online", "rule_enabled", "last_fired_older_than", "timer_running", "controller_active",
     "var_compare",
 ];
@@ -64,7 +64,7 @@ const GROUPS: &[(&str, &[&str])] = &[
     ("event", EVENTS), ("selector", SELECTORS), ("target", TARGETS), ("bound", BOUNDS), ("comparison", COMPARISONS),
     ("value", VALUES), ("choice", CHOICES), ("count", COUNTS), ("duration", durations::SORTS),
     ("buffer", records::SORTS), ("repeat", repeats::SORTS), ("party", parties::SORTS), ("topic", topics::SORTS),
-    ("profile", profile::SORTS), ("sheet", sheets::SORTS), ("line", repeats::LINES),
+    ("profile", profile::SORTS), ("sheet", sheets::SORTS), ("day", days::SORTS), ("line", repeats::LINES),
 ];
 
 /// The places of the groups in `GROUPS`.
@@ -88,10 +88,11 @@ const PARTY: usize = 16;
 const TOPIC: usize = 17;
 const PROFILE: usize = 18;
 const SHEET: usize = 19;
-const LINE: usize = 20;
+const DAY: usize = 20;
+const LINE: usize = 21;
 
 /// Room for the members.
-const WORDS: usize = 10;
+const WORDS: usize = 13;
 pub const MOST_FEATURES: usize = WORDS * 64;
 
 /// The set of what one answer shows; each member is numbered along `GROUPS`.
@@ -125,6 +126,7 @@ impl Features {
         topics::sorts(case, answer).iter().for_each(|sort| set.mark(TOPIC, Some(sort)));
         profile::sorts(case, answer).iter().for_each(|sort| set.mark(PROFILE, Some(sort)));
         sheets::sorts(case, answer).iter().for_each(|sort| set.mark(SHEET, Some(sort)));
+        days::sorts(case, answer).iter().for_each(|sort| set.mark(DAY, Some(sort)));
         set.mark(LINE, Some(repeats::line(case)));
         for line in answer.lines() {
             let mut fields = line.split(' ');

@@ -1,6 +1,7 @@
 //! The comparison of readers on generated cases: finding the first difference, making it small, and counting what
 //! the cases covered.
 
+mod days;
 mod durations;
 pub mod external;
 pub mod features;

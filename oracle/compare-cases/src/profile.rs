@@ -21,7 +21,7 @@ pub const SORTS: &[&str] = &[
     "takes an adapter", "takes a bound", "takes data", "takes a value", "takes a name in a target", "takes a name in a reading",
     "takes a text without names", "2 first", "53 first", "lexing first", "20 first", "21 first", "22 first", "22 of an id", "23 first",
     "24 first", "25 first", "26 first", "27 first", "28 first", "29 first", "30 first", "31 first", "32 first", "33 first", "34 first",
-    "35 first", "36 first", "37 first", "39 first", "40 first", "41 first", "63 first", "64 first", "65 first", "66 first",
+    "35 first", "36 first", "37 first", "39 first", "40 first", "41 first", "50 first", "63 first", "64 first", "65 first", "66 first",
 ];
 
 /// "A numbered reference with 57, broadcast with 58, an `event` reading with 59."

@@ -5,7 +5,7 @@ use crate::profile;
 use crate::readers::{guarded, past_question_3, quiet_panics, Other, Reader, Readers};
 use crate::run::{run, smallest, Difference, Outcome, Plan};
 use crate::shrink::shrink;
-use crate::tokens::{tokens, Token};
+use crate::tokens::{refusal, tokens, Token};
 use crate::vectors;
 use cases::{own_primary, Case, Habit, FORMER_LEAST_WORDS, LEAST_WORDS, MOST_WORDS};
 
@@ -340,7 +340,7 @@ fn topics_and_what_decides_are_counted() {
         (0, "mqtt \"a\" is", "40 at the last is"),
         (8, "mqtt \"a\" is \"b\"", "40 before a payload, 40 for 66"),
         (8, "mqtt \"1\" is 5", "40 before another token"),
-        (0, "at 7:05 on mon when mqtt \"a\"", ""),
+        (0, "at 7:05 on foo when mqtt \"a\"", ""),
         (8, "mqtt \"a\"", "66 at trigger 1, 66 for accepted, 66 with 8 lent, 66 of the archive call"),
         (9, "mqtt \"1\" when mqtt \"a\" foo", "66 at trigger 2, 66 for a later fault, 66 with 9 lent, 66 behind a lent one, 66 of the archive call"),
         (7, "mqtt \"a\" when mqtt \"a\" when mqtt \"b\"", "66 at trigger 3, 66 for accepted, 66 with 7 lent, 66 behind a repeat, 66 of the archive call"),
@@ -440,6 +440,105 @@ fn the_generators_topics_are_what_they_are_called() {
 }
 
 #[test]
+fn days_and_what_is_refused_beside_them_are_counted() {
+    let asked = |text: &str| shown("day ", &Case::new(1, LEAST_WORDS, format!("when {text}"), b"primary,0").with_habit(Habit::Rule));
+    for (text, wanted) in [
+        ("at 7:05 on mon", "mon, 1 day, behind a time, in trigger 1, before the end, of the default call"),
+        ("at sunset on fri..mon when http trigger", "fri..mon, 4 days, behind a sun, in trigger 1, before when, of the default call"),
+        ("at 7:05 when at sunrise + 5m on sun..sat", "sun..sat, seven behind an offset, seven as a range, behind an offset, in trigger 2, before the end, of the default call"),
+        ("http trigger if day in sun and sun is up", "sun, 1 day, as a condition, in condition 1, before and, before sun is, of the default call"),
+        ("http trigger if sun is up and day in tue, tue", "1 day, a day twice, as a condition, in condition 2, before the end, of the default call"),
+        ("at 7:05 on mon..wed, tue, mon..wed if sun is up", "3 days, a range twice, a day of a range, a day behind a range, a range behind a day, behind a time, in trigger 1, before if, of the default call"),
+        ("at 7:05 on mon..thu, wed..sun", "seven behind a time, seven as ranges, ranges that share days, a range behind a range, behind a time, in trigger 1, before the end, of the default call"),
+        ("at 7:05 on sat..thu, fri", "seven behind a time, seven as both, a day behind a range, behind a time, in trigger 1, before the end, of the default call"),
+        ("at 7:05 on mon,tue,wed,thu,fri,sat,sun", "seven behind a time, seven as single days, behind a time, in trigger 1, before the end, 13 tokens, of the default call"),
+        ("at 7:05 on foo", "50 first, 50 behind a time, 50 at another word, 50 for accepted, 50 in trigger 1, 50 at the last token, 50 of the default call"),
+        ("http trigger if day in mon..Tue 5", "50 behind .., 50 as a condition, 50 at capitals, 50 for 41, 50 in condition 1, 50 of the default call"),
+        ("at sunset on mon..tue,\nmonday, 5", "50 behind a comma, 50 behind a range and a comma, 50 behind a sun, 50 at a longer word, 50 for 20, 50 in trigger 1, 50 past line 1, 50 of the default call"),
+        ("at sunset - 5m on mo, when", "50 first, 50 behind an offset, 50 at a shorter word, 50 for 50, 50 in trigger 1, 50 of the default call"),
+        ("at 7:05 on sunset when every 5ms", "50 first, 50 behind a time, 50 at sunrise or sunset, 50 for another, 50 in trigger 1, 50 of the default call"),
+        ("at 7:05 on mon, when http trigger", "50 behind a comma, 50 behind a time, 50 at when, 50 for 41, 50 in trigger 1, 50 of the default call"),
+        ("at 7:05 on", "20 first, 20 behind a time, 20 at the end first"),
+        ("at sunset on mon,", "20 behind a comma, 20 behind a sun, 20 at the end behind a comma"),
+        ("http trigger if day in mon..", "20 behind .., 20 as a condition, 20 at the end behind .."),
+        ("at 7:05 on \"mon\"", "20 first, 20 behind a time, 20 at a string"),
+        ("at 7:05 on 5", "20 first, 20 behind a time, 20 at an integer"),
+        ("at 7:05 on mon, 7:05", "20 behind a comma, 20 behind a time, 20 at a time"),
+        ("at 7:05 on mon..5s", "20 behind .., 20 behind a time, 20 at a duration"),
+        ("at 7:05 on 1.5", "20 first, 20 behind a time, 20 at a decimal"),
+        ("at 7:05 on mon,,tue", "20 behind a comma, 20 behind a time, 20 at a comma"),
+        ("at 7:05 on mon...fri", "20 behind .., 20 behind a time, 20 at a point behind .."),
+        ("at 7:05 on (mon)", "20 first, 20 behind a time, 20 at another sign"),
+        ("http trigger if day mon", "20 for in at a day"),
+        ("http trigger if day foo", "20 for in at another word"),
+        ("http trigger if day 5", "20 for in at another token"),
+        ("http trigger if sun is up and day", "20 for in at the end"),
+        ("http trigger if sun day", ""),
+        ("at 7:05 on mon..tue..wed", "41 at .. behind a range"),
+        ("at 7:05 on mon on tue", "41 at on behind a set"),
+        ("at 7:05 on mon tue", "41 at a day behind a set"),
+        ("at 7:05 on mon foo", "41 at another word behind a set"),
+        ("at 7:05 on mon.", "41 at a point behind a set"),
+        ("at 7:05 on mon 5", "41 at another token behind a set"),
+        ("every 5s on mon", "41 at on behind another trigger"),
+        ("http trigger if sun is up on mon", "41 at on behind a condition"),
+        ("day", "21 at day"),
+        ("http trigger if mon", "21 at a day"),
+        ("at sunset + 2147483.648s on foo", "36 first"),
+        ("at 7:05 on foo @", "lexing first"),
+        ("at 7:05 on mon @", ""),
+        (&format!("at 7:05 on foo{}", "(".repeat(1_024)), "19 first"),
+        (&format!("http trigger {}when at 7:05 on foo", "when http trigger ".repeat(3)), "37 first"),
+        ("every 5ms when at 7:05 on foo", "another first"),
+        ("at 7:05", ""),
+    ] {
+        assert_eq!(asked(text), wanted, "{text}");
+    }
+    let most = format!("http trigger when at 7:05 on {}", ["tue"; 509].join(","));
+    assert!(asked(&most).contains("13 tokens, 100 tokens, the most tokens"));
+    let five = "http trigger if day in mon and day in mon and day in mon and day in mon and day in foo";
+    assert_eq!(asked(five), "39 first");
+    let shop = |text: &str| shown("day ", &Case::new(1, LEAST_WORDS, text, b"primary,0").with_habit(Habit::Shop));
+    assert_eq!(shop("when at 7:05 on mon if lamp(3) is on"), "beside a refusal of the profile");
+    assert!(shop("when at 7:05 on mon").ends_with("of the shop call"));
+}
+
+/// Readers with a fault in days are found, and the case becomes small.
+#[test]
+fn faults_in_days_are_found() {
+    let with = |case: &Case, from: &str, to: &str| {
+        let text = String::from_utf8_lossy(&case.text).replace(from, to);
+        second::answer(&Case { text: text.into_bytes(), ..case.clone() })
+    };
+    let capitals = move |case: &Case| with(case, "Mon", "mon");
+    let sunday = |case: &Case| second::answer(case).replace(" on 1567\n", " on 567\n");
+    let seven = |case: &Case| second::answer(case).replace("day_in 1234567", "day_in 123456");
+    let at_once = |case: &Case| second::answer(case).replace("refused 50 ", "refused 20 ");
+    let faulty: [Reader; 4] = [&capitals, &sunday, &seven, &at_once];
+    for faulty in faulty {
+        let found = difference(&second::answer, faulty, 1).expect("a difference");
+        assert!(found.case.text.len() < 200 && found.case.sheet.len() < 60, "{:?}", found.case);
+    }
+}
+
+/// Of the calls that a domain without days would have, the supplied Rust leaves out just those that the second reader leaves out.
+#[test]
+fn both_leave_out_the_same_texts_for_days() {
+    let mut left_out = 0;
+    for case in (0..30_000).map(generated).map(|case| case.with_habit(Habit::Archive).with_topics("")) {
+        let number = refusal(&second::answer(&case)).map_or(0, |(number, _)| number.parse().expect("a number"));
+        let text = std::str::from_utf8(&case.text).unwrap_or_default();
+        if matches!(number, 1..=4 | 19 | 40 | 53) || second::formerly_17(text) {
+            continue;
+        }
+        let supplied = supplied::answer(&case).ends_with("\noutside the domain\n");
+        assert_eq!(supplied, !second::in_domain(&case), "{}", case.text.escape_ascii());
+        left_out += usize::from(supplied);
+    }
+    assert!(left_out > 2_000, "{left_out}");
+}
+
+#[test]
 fn the_profile_and_what_comes_before_it_are_counted() {
     let sheet = "primary,0\nadapter,0\nlamp,0,1,a\nlamp,0,2,b\nlamp,0,3,b\ninput,0,4,a\n";
     let asked = |text: &str, lent: usize| {
@@ -463,6 +562,7 @@ fn the_profile_and_what_comes_before_it_are_counted() {
         ("hcl override starts for lamp(\"a\")", "takes lamp, takes a name in a target"),
         ("http trigger if var(\"v\") == input(\"a\", 1).light and var(\"v\") > 5", "takes input, takes a value, takes a name in a reading"),
         ("lamp(3) turns on foo", "41 first"),
+        ("lamp(3) turns on when at 7:05 on foo", "50 first"),
         ("lamp(3) turns on when lamp(\"b\") turns on", "33 first"),
         ("lamp(3) turns on @", "lexing first"),
         ("lamp(64) turns on", "22 of an id"),

@@ -4,11 +4,16 @@
 pub const WORD: u32 = 1;
 pub const STRING: u32 = 2;
 pub const INTEGER: u32 = 3;
+pub const TIME: u32 = 4;
+pub const DURATION: u32 = 5;
 pub const OPEN: u32 = 7;
 pub const CLOSE: u32 = 8;
 pub const COMMA: u32 = 11;
 pub const POINT: u32 = 12;
+pub const POINTS: u32 = 13;
 pub const ASSIGN: u32 = 14;
+pub const PLUS: u32 = 21;
+pub const MINUS: u32 = 22;
 
 const KEYS: [&str; 5] = ["dev", "inst", "group", "type", "adapter"];
 
@@ -17,6 +22,8 @@ pub struct Token<'a> {
     pub kind: u32,
     pub number: u32,
     pub text: &'a str,
+    /// Where that part begins, in bytes.
+    pub start: usize,
     /// Line and column, as they stand in the answer.
     pub place: &'a str,
 }
@@ -31,7 +38,7 @@ fn token<'a>(text: &'a str, line: &'a str) -> Option<Token<'a>> {
     let fields: Vec<&str> = line.strip_prefix("token ")?.splitn(5, ' ').collect();
     let [kind, number, start, length, place] = fields[..] else { return None };
     let (start, length): (usize, usize) = (start.parse().ok()?, length.parse().ok()?);
-    Some(Token { kind: kind.parse().ok()?, number: number.parse().ok()?, text: text.get(start..start + length)?, place })
+    Some(Token { kind: kind.parse().ok()?, number: number.parse().ok()?, text: text.get(start..start + length)?, start, place })
 }
 
 pub fn tokens<'a>(text: &'a str, answer: &'a str) -> impl Iterator<Item = Token<'a>> {

@@ -7,7 +7,7 @@ use std::collections::HashMap;
 use std::fs::File;
 use std::io::{self, BufReader, BufWriter, Write};
 
-/// Every feature is to be shown by so many cases; one that needs a text of the longest length or the most lent bytes, by one.
+/// Every feature is to be shown by so many cases; one that needs a text of the longest length, the most tokens or the most lent bytes, by one.
 const AT_LEAST: usize = 2;
 /// A case is left aside if it and its answer have more bytes than this; the landmarks are the large ones.
 const MOST_EACH: usize = 1_500;
@@ -163,7 +163,8 @@ pub fn extended(mut cases: Vec<Case>, more: Vec<Case>) -> Vec<Case> {
 
 fn at_least(feature: usize) -> usize {
     let name = feature_name(feature);
-    if name.starts_with("buffer last ") || name == "party 1 first" || name == "topic the most lent bytes" { 1 } else { AT_LEAST }
+    let large = ["party 1 first", "topic the most lent bytes", "day the most tokens", "day 19 first"];
+    if name.starts_with("buffer last ") || large.contains(&name.as_str()) { 1 } else { AT_LEAST }
 }
 
 /// The features that too few of the cases show.

@@ -99,7 +99,7 @@ const WIDE: &[&[u8]] = pieces![
     "below", "input", "power", "cycled", "manual", "config", "changed", "is", "dev", "inst", "type", "button",
     "occupied", "vacant", "position", "changes", "press", "event", "data", "sunrise", "sunset", "broadcast", "running",
     "enabled", "last_fired", "older", "than", "sun", "up", "down", "time", "in", "overridden", "cct", "var", "value",
-    "mqtt", "day", "(", ")", "{", "}", ",", ".", "..", "=", "==", "!=", ">=", "<=", ">", "<", "+", "-", "0", "64",
+    "mqtt", "day", "mon", "(", ")", "{", "}", ",", ".", "..", "=", "==", "!=", ">=", "<=", ">", "<", "+", "-", "0", "64",
     "7:05", "5s", "1.5", "\"a\"", "\"\"", "(1)", "(\"a\")", "(1,2)", "@",
 ];
 
@@ -120,6 +120,10 @@ const PROFILE_PARTS: &[&[u8]] = pieces!["when lamp(\"b\") turns on", "when lamp(
 const PROFILE_CONDITIONS: &[&[u8]] = pieces!["lamp(\"b\")", "lamp(5)", "lamp(64)", "group(5)", "device(\"a\")", "device(5)", "input(\"b\", 1)", "input(5, 1)",
     "hcl is enabled for", "broadcast", "is on", "any_on", "is online", "is occupied", ".light above 5", ".level >", "event.option", "lamp(5).level",
     "var(\"v\") ==", "and"];
+
+/// What sets of days are made of, and what may stand among or behind it.
+const DAY_PARTS: &[&[u8]] = pieces!["mon", "fri", "sun", "foo", "..", ".", ",", "5", "\"mon\"", "on", "when", "if sun is up"];
+const EVERY_DAY: &[&[u8]] = pieces!["mon", "tue", "wed", "thu", "fri", "sat", "sun", "..", ","];
 
 /// Lent topics: five, seven and eight.
 const FIVE: &[u8] = b"1\n2\n3\n4\n5";
@@ -160,6 +164,11 @@ const RUNS: &[Run] = &[
     text!("when input device(", "power cycled", 5, DEVICE_PARTS),
     text!(Habit::Shop, "when input device(", "power cycled", 5, DEVICE_PARTS),
     text!("when at", "", 5, pieces!["7:05", "sunset", "sunrise", "+", "-", "5s", "2147483.648s", "2147483.649s", "on", "mon", "if"]),
+    text!("when at 7:05 on", "", 5, DAY_PARTS),
+    text!(Habit::Rule, "when at sunset on mon", "", 4, DAY_PARTS),
+    text!("when at sunrise + 5s on", "", 5, EVERY_DAY),
+    text!(Habit::Shop, "when controller starts if day in", "", 4, EVERY_DAY),
+    text!("when controller starts if day", "", 5, pieces!["in", "mon", "sun", "foo", "..", ",", "5", "and", "is up", "on"]),
     text!("when every", "", 4, pieces!["5s", "999ms", "1000ms", "5", "1.5", "7:05", "if", "when", "sun is up", "at"]),
     text!("when scene(", "recalled", 5, pieces!["0", "15", "16", ",", "adapter", "=", "1", "2", ")"]),
     text!("when hcl override", "", 5, OVERRIDE_PARTS),

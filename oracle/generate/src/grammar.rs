@@ -64,8 +64,8 @@ const TRIGGERS: &[fn(&mut Walk)] = &[
     |w| w.mqtt(),
     |w| w.mqtt(),
     |w| { w.say("every"); w.period() },
-    |w| w.at_time(),
-    |w| { w.say("at"); w.solar(); w.odd_tail() },
+    |w| { w.say("at"); w.time(); w.perhaps_on_days(2) },
+    |w| { w.say("at"); w.solar(); w.perhaps_on_days(2) },
     |w| w.scene(),
     |w| { w.say("device"); w.reference(Kind::Device); w.say("goes offline") },
     |w| { w.say("device"); w.reference(Kind::Device); w.say("comes online") },
@@ -90,6 +90,7 @@ const CONDITIONS: &[fn(&mut Walk)] = &[
     |w| { w.say("device"); w.reference(Kind::Device); w.say("is online") },
     |w| { w.say("sun is"); w.choose(&["up", "down"]) },
     |w| { w.say("time in"); w.bound(); w.say(".."); w.bound() },
+    |w| w.day_in(),
     |w| { w.say("group"); w.reference(Kind::Group); w.choose(&["any_on", "all_off"]) },
     |w| { w.say("hcl is"); w.choose(&["enabled", "overridden"]); w.say("for"); w.target() },
     |w| { w.say("lamp"); w.reference(Kind::Lamp); w.say("is"); w.choose(&["on", "off"]) },
@@ -184,7 +185,7 @@ impl<'a> Walk<'a> {
 
     pub fn condition(&mut self) {
         if self.slip() {
-            let odd = self.rng.pick(&["day", "day in mon", "scene", "foo", "every 5s", "lamp", "and"]);
+            let odd = self.rng.pick(&["day", "day in", "mon", "scene", "foo", "every 5s", "lamp", "and"]);
             return self.say(odd);
         }
         let form = self.rng.pick(CONDITIONS);
@@ -366,27 +367,13 @@ impl<'a> Walk<'a> {
         self.say(duration);
     }
 
-    fn time(&mut self) {
+    pub(crate) fn time(&mut self) {
         let from = if self.slip() { WRONG_TIMES } else { TIMES };
         let time = self.rng.pick(from);
         self.say(time);
     }
 
-    fn at_time(&mut self) {
-        self.say("at");
-        self.time();
-        self.odd_tail();
-    }
-
-    /// What a slip puts behind `at` and a time: the left-out `on`, or an offset where none, or no further one, may be.
-    fn odd_tail(&mut self) {
-        if self.slip() {
-            let tail = self.rng.pick(&["on mon", "on", "+ 5s", "- 5s"]);
-            self.say(tail);
-        }
-    }
-
-    fn solar(&mut self) {
+    pub(crate) fn solar(&mut self) {
         self.choose(&["sunrise", "sunset"]);
         match self.rng.below(4) {
             0 => { self.say("+"); self.duration() }

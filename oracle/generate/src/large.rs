@@ -5,7 +5,7 @@ use crate::grammar::{Walk, NEVER};
 use crate::rng::Rng;
 use crate::sheet::Sheet;
 use crate::spell::{spell, Token};
-use crate::vocabulary::{INTEGERS, SPACES};
+use crate::vocabulary::{DAYS, INTEGERS, SPACES};
 use cases::{Case, LEAST_WORDS, MOST_BYTES as FORMAT_BYTES, MOST_TOKENS, MOST_WORDS};
 use std::borrow::Cow;
 
@@ -13,12 +13,13 @@ const MOST_BYTES: usize = 16_384;
 
 /// A large text of a random sort.
 pub fn text(rng: &mut Rng, sheet: &Sheet) -> Vec<u8> {
-    match rng.below(11) {
+    match rng.below(12) {
         0..=2 => many_arguments(rng),
         3 | 4 => many_tokens(rng),
         5 => random_tokens(rng),
         6 => many_zeros(rng),
         7 | 8 => far(rng),
+        9 => many_days(rng),
         _ => long(rng, sheet),
     }
 }
@@ -52,6 +53,21 @@ fn many_arguments(rng: &mut Rng) -> Vec<u8> {
     let missing = (count - rest) % 4;
     out.push_str(behind[missing]);
     out.into_bytes()
+}
+
+/// The same with a set of two days, each many times, as a trigger's or as a condition; sometimes a word of it is another day, or none.
+fn many_days(rng: &mut Rng) -> Vec<u8> {
+    let (before, tokens) = rng.pick(&[("when http trigger when at 7:05 on ", 7), ("when at sunset on ", 4), ("when http trigger if day in ", 6)]);
+    let count = token_count(rng) - tokens;
+    let mut days: Vec<&str> = vec![rng.pick(DAYS); count.div_ceil(2)];
+    let turn = rng.below(days.len());
+    days[turn..].fill(rng.pick(DAYS));
+    if rng.once_in(3) {
+        let at = if rng.once_in(2) { days.len() - 1 } else { rng.below(days.len()) };
+        days[at] = if rng.once_in(2) { "foo" } else { rng.pick(DAYS) };
+    }
+    let comma = if count % 2 == 0 { "," } else { "" };
+    format!("{before}{}{comma}", days.join(",")).into_bytes()
 }
 
 fn random_tokens(rng: &mut Rng) -> Vec<u8> {

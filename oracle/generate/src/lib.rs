@@ -4,6 +4,7 @@
 mod arguments;
 pub mod chains;
 mod damage;
+mod days;
 pub mod durations;
 mod exhaustive;
 mod grammar;
@@ -122,8 +123,9 @@ fn text(rng: &mut Rng, sheet: &Sheet) -> Vec<u8> {
         100..=105 => with_ill_formed(rng, sheet),
         106..=117 => several_faults(rng, sheet),
         118..=129 => about_topics(rng, sheet),
+        130..=141 => about_days(rng, sheet),
         sort => {
-            let tokens = walk(rng, sheet, if sort < 156 { SELDOM } else { NEVER });
+            let tokens = walk(rng, sheet, if sort < 164 { SELDOM } else { NEVER });
             spell(rng, &tokens)
         }
     }
@@ -160,6 +162,15 @@ fn about_topics(rng: &mut Rng, sheet: &Sheet) -> Vec<u8> {
     let (one, slips) = (rng.once_in(3), rng.pick(&[NEVER, NEVER, NEVER, SELDOM]));
     let mut walk = Walk::new(rng, sheet, slips);
     if one { walk.topic_text() } else { walk.topics_text() }
+    let tokens = walk.tokens();
+    seldom_damaged(rng, tokens)
+}
+
+/// A text about days.
+fn about_days(rng: &mut Rng, sheet: &Sheet) -> Vec<u8> {
+    let slips = rng.pick(&[NEVER, NEVER, NEVER, SELDOM]);
+    let mut walk = Walk::new(rng, sheet, slips);
+    walk.days_text();
     let tokens = walk.tokens();
     seldom_damaged(rng, tokens)
 }

@@ -1,5 +1,7 @@
 use super::*;
-use crate::vocabulary::{BESIDE_FORBIDDEN, CHARACTERS, DECIMALS, DURATIONS, FORBIDDEN, ILL_FORMED, SIGNS, SPACES, TIMES, TOPICS, WORDS};
+use crate::vocabulary::{
+    BESIDE_FORBIDDEN, CHARACTERS, DAYS, DECIMALS, DURATIONS, FORBIDDEN, ILL_FORMED, NO_DAYS, SIGNS, SPACES, TIMES, TOPICS, WORDS,
+};
 
 const SEED: u64 = 7;
 const MANY: u64 = 60_000;
@@ -70,6 +72,27 @@ fn every_forbidden_character_and_those_beside_stand_in_topics() {
     let topics = TOPICS.iter().map(|topic| alone(topic.to_string()));
     let all: Vec<String> = characters.chain(topics).chain(planes.map(String::from)).collect();
     assert_eq!(never(MANY, parts(&[&all])), Vec::<String>::new());
+}
+
+#[test]
+fn every_range_and_every_word_that_is_no_day_stand_in_sets() {
+    let ranges: Vec<String> = DAYS.iter().flat_map(|from| DAYS.iter().map(move |to| format!("{from}..{to}"))).collect();
+    let first = |word: &&str| [format!(" on {word}"), format!(" in {word}")];
+    let behind: Vec<String> = NO_DAYS.iter().flat_map(|word| [format!(",{word}"), format!("..{word}")]).chain(DAYS.iter().flat_map(first)).collect();
+    let fixed = ["mon,tue,wed,thu,fri,sat,sun", "...", " on 5", " on\"mon\"", ",when http", ",and sun", ",if sun"].map(String::from).to_vec();
+    assert_eq!(never(MANY, parts(&[&ranges, &behind, &fixed])), Vec::<String>::new());
+    assert!(NO_DAYS.iter().all(|word| !DAYS.contains(word)));
+}
+
+#[test]
+fn texts_about_days_are_of_every_habit() {
+    let with_days: Vec<Case> = (0..10_000).map(|index| case(SEED, index)).filter(|case| [&b" on mon"[..], b" in mon"].iter().any(|part| contains(&case.text, part))).collect();
+    for habit in Habit::ALL {
+        let count = with_days.iter().filter(|case| case.habit() == habit).count();
+        assert!(count > 20, "{habit:?} {count}");
+    }
+    let most = |case: &Case| case.text.split(|&b| b == b',').count() > 500 && !contains(&case.text, b"dev");
+    assert!((0..MANY).map(|index| case(SEED, index)).any(|case| most(&case)));
 }
 
 #[test]
@@ -272,9 +295,9 @@ fn the_sequences_differ_and_hold_whole_forms() {
         seen.dedup();
         assert!(seen.len() as u64 > exhaustive_count(length) * 3 / 4, "{length}: {}", seen.len());
     }
-    let whole: [&[u8]; 5] = [
+    let whole: [&[u8]; 7] = [
         b"when every 5s", b"when controller starts if sun is up", b"when lamp( \"b\" ) turns on", b"when mqtt \"a\" is",
-        b"when mqtt \"a\" when mqtt \"5\" foo",
+        b"when mqtt \"a\" when mqtt \"5\" foo", b"when at 7:05 on mon .. sun", b"when controller starts if day in sun",
     ];
     for text in whole {
         assert!((0..=3).any(|length| exhaustive(length).any(|case| case.text == text)), "{}", text.escape_ascii());

@@ -1,6 +1,6 @@
 //! The words, signs, numbers, strings and characters that texts are made of.
 
-/// Every word of the grammar, those of the forms left out, and some that fit nowhere.
+/// Every word of the grammar, and some that fit nowhere.
 pub const WORDS: &[&str] = &[
     "when", "if", "and", "timer", "fires", "rule", "fails", "controller", "starts", "becomes", "active", "http",
     "trigger", "every", "at", "scene", "recalled", "adapter", "device", "goes", "offline", "comes", "online", "group",
@@ -11,7 +11,16 @@ pub const WORDS: &[&str] = &[
     "movement", "no_movement", "any_event", "event", "data", "sunrise", "sunset", "broadcast", "running", "enabled",
     "last_fired", "older", "than", "sun", "up", "down", "time", "in", "overridden", "cct", "var", "is_on",
     "last_level", "member_count", "last_event_age", "now", "hour", "minute", "weekday", "rise", "set", "is_up",
-    "value", "instance", "option", "mqtt", "day", "mon", "do", "foo", "When", "_", "x1",
+    "value", "instance", "option", "mqtt", "day", "mon", "tue", "wed", "thu", "fri", "sat", "do", "foo", "When", "_", "x1", "Mon",
+    "monday",
+];
+
+pub const DAYS: &[&str] = &["mon", "tue", "wed", "thu", "fri", "sat", "sun"];
+
+/// Words that are no day: near ones, and those that may stand behind a set or begin something else.
+pub const NO_DAYS: &[&str] = &[
+    "foo", "Mon", "MON", "mOn", "moN", "Sun", "sUN", "monday", "sunday", "mo", "tu", "tues", "thur", "m", "sunset", "sunrise", "mon_", "_mon", "mon1", "xmon",
+    "onm", "mom", "sut", "fry", "wet", "day", "days", "weekday", "on", "in", "when", "if", "and", "is", "at", "time", "lamp", "up",
 ];
 
 /// The signs in the order of the token kinds 7 to 22.

@@ -21,20 +21,20 @@ pub enum TimeBound {
     Solar { event: SolarEvent, offset_ms: i32 },
 }
 
-/// The days of a left-out form. Without that form a trigger has all days; which days a set holds is not modelled.
+/// The days of a form outside the domain. Without that form a trigger has all days; which days a set holds is not modelled.
 #[derive(Debug, Clone, Copy, PartialEq, Eq)]
 pub struct DaySet;
 
-/// A day of a left-out form; there is no value of it.
+/// A day of such a form; there is no value of it.
 #[derive(Debug, Clone, Copy, PartialEq, Eq)]
 pub enum Weekday {}
 
 impl DaySet {
     pub const ALL: DaySet = DaySet;
 
-    /// Asked for only where a set of days is read, so only in a left-out form: stops the run.
+    /// Asked for only where a set of days is read, so only in such a form: stops the run.
     pub fn empty() -> DaySet {
-        panic!("the supplied Rust went on into a left-out form: a set of days")
+        panic!("the supplied Rust went on into a form outside the domain: a set of days")
     }
 
     pub fn insert(&mut self, day: Weekday) {
@@ -49,6 +49,6 @@ impl DaySet {
 impl Weekday {
     /// See `DaySet::empty`.
     pub fn from_name(name: &str) -> Option<Weekday> {
-        panic!("the supplied Rust went on into a left-out form: the day {name:?}")
+        panic!("the supplied Rust went on into a form outside the domain: the day {name:?}")
     }
 }

@@ -10,6 +10,8 @@ pub mod texts;
 pub mod whole;
 
 #[cfg(test)]
+mod days;
+#[cfg(test)]
 mod isolation;
 #[cfg(test)]
 mod tests;

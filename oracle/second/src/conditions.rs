@@ -7,7 +7,7 @@ use crate::refusal::Refusal;
 use crate::sheet::Kind;
 
 impl<'a> Reader<'a> {
-    /// The first word is taken and then compared: 21. The condition `day` is left out: 40.
+    /// The first word is taken and then compared: 21.
     pub fn condition(&mut self) -> Read<Condition<'a>> {
         let (word, place) = self.any_word()?;
         match word {
@@ -23,7 +23,7 @@ impl<'a> Reader<'a> {
             b"lamp" => self.lamp_condition(),
             b"input" => self.input_condition(),
             b"var" => self.var_condition(),
-            b"day" => Err(Refusal::new(40, place)),
+            b"day" => self.day_in(),
             _ => Err(Refusal::new(21, place)),
         }
     }
@@ -63,6 +63,13 @@ impl<'a> Reader<'a> {
         let from = self.bound()?;
         self.expect(TokenKind::Points)?;
         Ok(Condition::TimeInRange(from, self.bound()?))
+    }
+
+    /// "`day in` takes one as a condition", document 02 §1. `in` is the one fixed word here: another is 20.
+    fn day_in(&mut self) -> Read<Condition<'a>> {
+        self.met_days = true;
+        self.expect_word("in")?;
+        Ok(Condition::DayIn(self.days()?))
     }
 
     fn group_state(&mut self) -> Read<Condition<'a>> {

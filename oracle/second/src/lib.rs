@@ -4,6 +4,7 @@
 mod buffer;
 mod chains;
 mod conditions;
+mod days;
 mod durations;
 mod lexer;
 mod model;
@@ -36,6 +37,8 @@ struct Outcome<'a> {
     result: Read<Lists<'a>>,
     /// Whether lexing read a duration that document 01's first 17 refuses.
     formerly_17: bool,
+    /// Whether parsing came to a form with days.
+    met_days: bool,
 }
 
 /// The answer to a case, in the replay format.
@@ -48,15 +51,16 @@ pub fn answer(case: &Case) -> String {
 /// more fractional digits, and no text on which the Rust reaches a left-out form"; less, by document 02 §2, "texts with a
 /// duration that the old first 17 refuses", whatever is answered now; and by §11 "the Rust comparison runs on the archive
 /// call". By §6 the Rust's resolver gets the party's rows and the call's primary, "in calls whose primary is the party's": not
-/// for 53. By §12 "lent topics in UTF-8 form the reference's rule set": not others. A payload is a left-out form, 40 as the
-/// others.
+/// for 53. By §12 "lent topics in UTF-8 form the reference's rule set": not others. A payload is a left-out form: 40. By §1 texts
+/// with days "stay outside the domain, as a difference": those on which `on` behind `at` and its time or sun, or the condition `day`,
+/// is reached, whatever is answered.
 pub fn in_domain(case: &Case) -> bool {
     if case.habit() != Habit::Archive || std::str::from_utf8(case.topics()).is_err() {
         return false;
     }
     let outcome = read(case);
     let asked_of_both = |refusal: &Refusal| !matches!(refusal.number, 1..=4 | 19 | 40 | 53);
-    !outcome.formerly_17 && outcome.result.as_ref().err().is_none_or(asked_of_both)
+    !outcome.formerly_17 && !outcome.met_days && outcome.result.as_ref().err().is_none_or(asked_of_both)
 }
 
 /// Whether the lexer reads a duration in this text that document 01's first 17 refuses.
@@ -89,17 +93,23 @@ fn read(case: &Case) -> Outcome<'_> {
     let mut buffer = Buffer::new(case.words);
     let (view, text) = match admit(case, &buffer) {
         Ok(admitted) => admitted,
-        Err(refusal) => return Outcome { buffer, result: Err(refusal), formerly_17: false },
+        Err(refusal) => return Outcome { buffer, result: Err(refusal), formerly_17: false, met_days: false },
     };
     let lexed = lexer::lex(text);
     buffer.write(&lexed.tokens);
     let given = Given { sheet: view, topics: Topics::lent(case.topics()), repeats: repeats(case) };
-    let result = lexed.end.and_then(|end| lists(case.habit(), Reader::new(text, lexed.tokens, end, given)));
-    Outcome { buffer, result, formerly_17: lexed.formerly_17 }
+    let formerly_17 = lexed.formerly_17;
+    let end = match lexed.end {
+        Ok(end) => end,
+        Err(refusal) => return Outcome { buffer, result: Err(refusal), formerly_17, met_days: false },
+    };
+    let mut reader = Reader::new(text, lexed.tokens, end, given);
+    let result = lists(case.habit(), &mut reader);
+    Outcome { buffer, result, formerly_17, met_days: reader.met_days }
 }
 
 /// Both lists. The profile of the shop call is judged "on an accepted reading", document 02 §9.
-fn lists<'a>(habit: Habit, mut reader: Reader<'a>) -> Read<Lists<'a>> {
+fn lists<'a>(habit: Habit, reader: &mut Reader<'a>) -> Read<Lists<'a>> {
     let lists = reader.sections()?;
     match reader.left_out.earliest() {
         Some(refusal) if habit == Habit::Shop => Err(refusal),

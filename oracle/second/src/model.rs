@@ -1,5 +1,7 @@
 //! What a text says: the records of its triggers and conditions.
 
+use crate::days::Days;
+
 /// One of the words that a form offers as a choice, as it is written in the text.
 pub type Choice = &'static str;
 
@@ -79,7 +81,7 @@ pub enum Trigger<'a> {
     InputPositionChange(Instance),
     InputDevicePowerCycled(Ref),
     InputDeviceManualConfigChanged(Ref),
-    At(Bound),
+    At(Bound, Days),
     Every(u32),
     LampTurns(Ref, Choice),
     LampLevelCross(Ref, Choice, u32),
@@ -99,6 +101,7 @@ pub enum Trigger<'a> {
 #[derive(Debug, Clone, Copy, PartialEq, Eq)]
 pub enum Condition<'a> {
     TimeInRange(Bound, Bound),
+    DayIn(Days),
     SunIs(Choice),
     LampIs(Ref, Choice),
     /// The property, level or cct, stands behind the lamp.

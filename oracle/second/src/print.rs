@@ -1,6 +1,7 @@
 //! The replay format (docs/REPLAY.md).
 
 use crate::buffer::Buffer;
+use crate::days::Days;
 use crate::model::*;
 use crate::reader::Read;
 
@@ -70,6 +71,11 @@ fn bound(b: &Bound) -> String {
     }
 }
 
+/// ` on DAYS`, "only where fewer than seven days are in the set".
+fn on(days: &Days) -> String {
+    if *days == Days::ALL { String::new() } else { format!(" on {}", days.digits()) }
+}
+
 /// A reading is written as its first word and its property, and then its reference.
 fn reading(r: &Reading) -> String {
     match r {
@@ -99,8 +105,8 @@ fn trigger(t: &Trigger) -> String {
         Trigger::InputDeviceManualConfigChanged(r) => {
             format!("input_device_manual_config_changed {}", reference(r))
         }
-        Trigger::At(Bound::Clock(minutes)) => format!("at_time {minutes}"),
-        Trigger::At(Bound::Solar(s)) => format!("at_solar {} {}", s.event, s.offset),
+        Trigger::At(Bound::Clock(minutes), days) => format!("at_time {minutes}{}", on(days)),
+        Trigger::At(Bound::Solar(s), days) => format!("at_solar {} {}{}", s.event, s.offset, on(days)),
         Trigger::Every(ms) => format!("every {ms}"),
         Trigger::LampTurns(r, state) => format!("lamp_turns {} {state}", reference(r)),
         Trigger::LampLevelCross(r, side, level) => format!("lamp_level_cross {} {side} {level}", reference(r)),
@@ -121,6 +127,7 @@ fn trigger(t: &Trigger) -> String {
 fn condition(c: &Condition) -> String {
     match c {
         Condition::TimeInRange(from, to) => format!("time_in_range {} {}", bound(from), bound(to)),
+        Condition::DayIn(days) => format!("day_in {}", days.digits()),
         Condition::SunIs(state) => format!("sun_is {state}"),
         Condition::LampIs(r, state) => format!("lamp_is {} {state}", reference(r)),
         Condition::LampCompare(r, property, cmp, v) => {

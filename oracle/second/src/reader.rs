@@ -27,8 +27,8 @@ pub struct Given<'a> {
     pub repeats: Repeats,
 }
 
-/// The parser: a list of tokens with the text they are from, where it stands in it, what the call gives, and what it met so far
-/// that the shop profile leaves out.
+/// The parser: a list of tokens with the text they are from, where it stands in it, what the call gives, what it met so far that the
+/// shop profile leaves out, and whether it met a form with days.
 pub struct Reader<'a> {
     text: &'a str,
     tokens: Vec<Token>,
@@ -36,11 +36,12 @@ pub struct Reader<'a> {
     end: Place,
     pub given: Given<'a>,
     pub left_out: LeftOut,
+    pub met_days: bool,
 }
 
 impl<'a> Reader<'a> {
     pub fn new(text: &'a str, tokens: Vec<Token>, end: Place, given: Given<'a>) -> Reader<'a> {
-        Reader { text, tokens, next: 0, end, given, left_out: LeftOut::default() }
+        Reader { text, tokens, next: 0, end, given, left_out: LeftOut::default(), met_days: false }
     }
 
     pub fn peek(&self) -> Option<Token> {

@@ -1,7 +1,8 @@
 //! The forms of a trigger.
 
+use crate::days::Days;
 use crate::lexer::Kind as TokenKind;
-use crate::model::{Bound, Event, Trigger};
+use crate::model::{Event, Trigger};
 use crate::reader::{one_of, Read, Reader};
 use crate::references::one_instance;
 use crate::refusal::{Place, Refusal};
@@ -75,13 +76,14 @@ impl<'a> Reader<'a> {
         Ok(Trigger::Every(period.number))
     }
 
-    /// A TIME or a SOLAR. `on` after a TIME is left out: 40.
+    /// "After `at` and its TIME or SOLAR, `on` takes a day set", document 02 §1.
     fn at(&mut self) -> Read<Trigger<'a>> {
         let bound = self.bound()?;
-        if matches!(bound, Bound::Clock(_)) && self.at_word("on") {
-            return self.refuse(40);
+        if !self.take_word("on") {
+            return Ok(Trigger::At(bound, Days::ALL));
         }
-        Ok(Trigger::At(bound))
+        self.met_days = true;
+        Ok(Trigger::At(bound, self.days()?))
     }
 
     /// The scene's number is no id of R: it is judged at once.

@@ -106,7 +106,7 @@ fn p32_any_other_refusal_comes_first() {
         ("lamp(3) turns on when lamp(\"None\") turns on", "31 1 33 0"), ("lamp(3) turns on @", "10 1 23 0"), ("lamp(3) turns up", "21 1 20 0"),
         ("hcl override starts for broadcast if", "20 1 42 0"), ("lamp(3) turns on if var(\"v\") == event.foo", "21 1 44 0"),
         ("lamp(3, adapter=9) turns on", "25 1 22 0"), ("input(group=3) becomes vacant", "30 1 11 0"), ("lamp(3) turns on when every 5ms", "35 1 34 0"),
-        ("lamp(3) turns on when at 7:05 on", "40 1 36 0"), ("input(group=2, dev=3) is press", "27 1 18 0"), ("input(3) is press", "29 1 13 0"),
+        ("lamp(3) turns on when mqtt \"a\" is", "40 1 37 0"), ("lamp(3) turns on when at 7:05 on foo", "50 1 39 0"), ("input(group=2, dev=3) is press", "27 1 18 0"), ("input(3) is press", "29 1 13 0"),
     ]);
     let first = |case: Case| verdict_of(&case.with_habit(Habit::Shop));
     let numbered = "when lamp(3) turns on";

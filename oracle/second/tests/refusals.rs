@@ -306,14 +306,13 @@ fn n37_to_41_of_sections() {
         ("\n when", "20 2 6 0"),
         (&format!("when http trigger {four} and ("), "39 1 118 0"),
         ("when mqtt \"a\" is foo", "40 1 15 0"),
-        ("when at 7:05 on", "40 1 14 0"),
         ("when http trigger )", "41 1 19 0"),
         ("when http trigger then", "41 1 19 0"),
         ("when http trigger and controller is active", "41 1 19 0"),
         ("when http trigger if controller is active when http trigger", "41 1 43 0"),
         ("when http trigger if controller is active if", "41 1 43 0"),
     ]);
-    condition_refused(&[("day in mon", "40 1 22 0"), ("lamp(1).level == 1 + 1", "41 1 41 0")]);
+    condition_refused(&[("lamp(1).level == 1 + 1", "41 1 41 0")]);
     last_record(&[(&whens, "T http_trigger"), (&format!("{whens} {four}"), "C controller_active")]);
 }
 
@@ -328,7 +327,6 @@ fn the_domain() {
     assert!(!in_domain(b"when http trigger", ""));
     assert!(!in_domain(b"\xFF", ALL));
     assert!(!in_domain(&[b' '; 16_385], ALL));
-    assert!(!in_domain(b"when at 7:05 on", ALL));
-    assert!(!in_domain(b"when http trigger if day", ALL));
+    assert!(!in_domain(b"when mqtt \"a\" is", ALL));
     assert!(!second::in_domain(&Case { words: 5_119, ..case(b"when http trigger", ALL.as_bytes()) }));
 }

@@ -19,11 +19,6 @@ fn p01_the_buffer_on_refusal() {
 }
 
 #[test]
-fn p02_on_is_left_out_after_a_time_only() {
-    refused(&[("when at sunset on mon", "41 1 16 0"), ("when at 7:05 on mon", "40 1 14 0")]);
-}
-
-#[test]
 fn p03_a_unit_is_of_ascii_letters() {
     let case = case("5é".as_bytes(), ALL.as_bytes());
     assert_eq!(second::answer(&case), "case 1\ntoken 3 5 0 1 1 1\nbuffer kept\nrefused 10 1 2 0\n");

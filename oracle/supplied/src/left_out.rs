@@ -1,9 +1,10 @@
-//! Question 40: the forms that the documents leave out and the supplied Rust has.
+//! The forms in which the supplied Rust is not compared: those with days (document 02 §1), and the payload of an `mqtt` trigger,
+//! which the documents leave out (question 40) and the supplied Rust has.
 //!
-//! The supplied Rust comes to such a word just if, given only the tokens before it, it uses up all of them and then
-//! asks for the word's place: for a condition before `day`; before `on` it takes `at` and a time as a whole trigger,
-//! and before `is` it reads `mqtt` and a topic as one. It looks past the word in hand only inside `input(…)`, so what it
-//! does up to the word does not hang on the word. The first such word is answered, and the supplied Rust never goes into it.
+//! The supplied Rust comes to the word of such a form just if, given only the tokens before it, it uses up all of them and then
+//! asks for the word's place: for a condition before `day`; before `on` it takes `at` and a time, or sunrise or sunset, as a whole
+//! trigger, and before `is` it reads `mqtt` and a topic as one. It looks past the word in hand only inside `input(…)`, so what it
+//! does up to the word does not hang on the word. The first such word decides, and the supplied Rust never goes into it.
 
 use crate::cursor::Cursor;
 use crate::lexer::{Lexed, Pos, Token, TokenKind};
@@ -11,11 +12,35 @@ use crate::messages;
 use crate::parser::action::sections;
 use dali2rust_rules_model::{CompileError, NameResolver, RuleSet};
 
-/// The place of the first left-out word that the supplied Rust comes to.
-pub fn first_reached(lexed: &Lexed, names: &dyn NameResolver, earlier: &RuleSet) -> Option<Pos> {
+/// A form that the supplied Rust comes to and is not compared in.
+#[derive(Debug, Clone, Copy, PartialEq, Eq)]
+pub enum Reached {
+    /// `on` behind `at` and its time or sun, or the condition `day`.
+    Days,
+    /// `is` behind a topic, at this place.
+    Payload(Pos),
+}
+
+/// The first such form.
+pub fn first_reached(lexed: &Lexed, names: &dyn NameResolver, earlier: &RuleSet) -> Option<Reached> {
     let call = Call { names, earlier };
-    let reached = |i: &usize| call.reaches(&lexed.tokens[..*i], &lexed.tokens[*i]);
-    (1..lexed.tokens.len()).find(reached).map(|i| lexed.tokens[i].pos)
+    (1..lexed.tokens.len()).find_map(|i| call.reaches(&lexed.tokens[..i], &lexed.tokens[i]))
+}
+
+/// Whether the tokens end with `when at` and a time, or sunrise or sunset with perhaps an offset.
+fn end_with_at(tokens: &[Token]) -> bool {
+    let start = match tokens {
+        [start @ .., Token { kind: TokenKind::Time { .. }, .. }] => start,
+        [start @ .., sun, sign, Token { kind: TokenKind::Duration(_), .. }]
+            if is_sun(sun) && matches!(sign.kind, TokenKind::Plus | TokenKind::Minus) => start,
+        [start @ .., sun] if is_sun(sun) => start,
+        _ => return false,
+    };
+    matches!(start, [.., when, at] if is_word(when, "when") && is_word(at, "at"))
+}
+
+fn is_sun(token: &Token) -> bool {
+    is_word(token, "sunrise") || is_word(token, "sunset")
 }
 
 fn is_word(token: &Token, word: &str) -> bool {
@@ -33,22 +58,19 @@ struct Call<'a> {
 }
 
 impl Call<'_> {
-    fn reaches(&self, before: &[Token], token: &Token) -> bool {
+    fn reaches(&self, before: &[Token], token: &Token) -> Option<Reached> {
         match before {
             [.., link] if is_word(token, "day") && (is_word(link, "if") || is_word(link, "and")) => {
-                self.asks(before, token.pos, "expected a condition")
+                self.asks(before, token.pos, "expected a condition").then_some(Reached::Days)
             }
-            [.., when, at, Token { kind: TokenKind::Time { .. }, .. }]
-                if is_word(token, "on") && is_word(at, "at") && is_word(when, "when") =>
-            {
-                self.takes(before, token.pos)
-            }
+            _ if is_word(token, "on") && end_with_at(before) => self.takes(before, token.pos).then_some(Reached::Days),
             [.., when, mqtt, Token { kind: TokenKind::Str(_), .. }]
                 if is_word(token, "is") && is_word(mqtt, "mqtt") && is_word(when, "when") =>
             {
-                self.takes(before, token.pos) || self.counts(before, token.pos, mqtt.pos)
+                let read = self.takes(before, token.pos) || self.counts(before, token.pos, mqtt.pos);
+                read.then_some(Reached::Payload(token.pos))
             }
-            _ => false,
+            _ => None,
         }
     }
 

@@ -18,6 +18,7 @@ mod topics;
 pub use crate::lexer::lex as supplied_lex;
 
 use crate::cursor::Cursor;
+use crate::left_out::Reached;
 use crate::lexer::{Lexed, Pos};
 use crate::sheet::{Names, Sheet};
 use crate::tokens::Record;
@@ -54,8 +55,8 @@ pub(crate) enum Verdict {
 /// The text that the replay format orders for the case: its token records, then the refusal or the two lists.
 ///
 /// Of the settings of a call the party, the primary and the lent topics count; what the supplied Rust does with repeated
-/// arguments is the archive habit, and it has no profile. A case on which the supplied Rust would overflow, or whose text it would parse with lent
-/// topics that are not UTF-8, has the one line `outside the domain` instead.
+/// arguments is the archive habit, and it has no profile. A case on which the supplied Rust would overflow, whose text it would parse with lent
+/// topics that are not UTF-8, or on which it comes to a form with days, has the one line `outside the domain` instead.
 pub fn answer(case: &cases::Case) -> String {
     let (records, verdict) = judged(case);
     let mut out = format!("case {}\n", case.id);
@@ -133,11 +134,13 @@ fn judged(case: &cases::Case) -> (Vec<Record>, Verdict) {
     (read.records, verdict)
 }
 
-/// What is said once every token is read: 40 for a left-out form that the supplied Rust comes to, else what its two
-/// sections say, else 41 for a token behind them.
+/// What is said once every token is read: nothing for a form with days that the supplied Rust comes to, 40 for a payload, else
+/// what its two sections say, else 41 for a token behind them.
 fn parsed(lexed: Lexed, names: &Names, earlier: &RuleSet) -> Verdict {
-    if let Some(pos) = left_out::first_reached(&lexed, names, earlier) {
-        return Verdict::Refused(Refusal::at(40, pos));
+    match left_out::first_reached(&lexed, names, earlier) {
+        Some(Reached::Days) => return Verdict::OutsideTheDomain,
+        Some(Reached::Payload(is)) => return Verdict::Refused(Refusal::at(40, is)),
+        None => {}
     }
     let mut cursor = Cursor::new(lexed, names);
     match parser::action::sections(&mut cursor, earlier) {

@@ -2,7 +2,7 @@
 //!
 //! A row holds a message as the source writes it, and the words that the source puts in for `{what}`, `{kw}` or
 //! `{hint}`; the other gaps are open. Every message that the two sections or `lex` can give fits just one row, from
-//! end to end. Messages of the left-out forms, and those that are never met, have no row: they stop the run.
+//! end to end. Messages of the forms outside the domain, and those that are never met, have no row: they stop the run.
 
 use crate::lexer::Pos;
 use crate::parser::action::RULE;
@@ -259,8 +259,8 @@ mod tests {
         ("offset {value} out of range", "an integer token is at most 1,000,000,000"),
         ("expected HH:MM", "time_of_day is called only at a time"),
         ("expected a value, got \"{family}\"", "reading is called only at one of its words"),
-        ("unknown day \"{word}\"", "left out: days"),
-        ("mqtt payload exceeds {MAX_MQTT_PAYLOAD_BYTES} bytes", "left out: payloads"),
+        ("unknown day \"{word}\"", "outside the domain: days"),
+        ("mqtt payload exceeds {MAX_MQTT_PAYLOAD_BYTES} bytes", "outside the domain: payloads"),
         ("duplicate {what} \"{name}\"", "whole rules are not read"),
         ("block \"{name}\" has no actions", "whole rules are not read"),
         ("expected true or false, got \"{word}\"", "whole rules are not read"),

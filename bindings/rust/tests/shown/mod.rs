@@ -71,6 +71,19 @@ fn bound(b: TimeBound) -> String {
     }
 }
 
+/// DAYS: the digits of the days in the set, from 1 for Monday.
+fn days(d: Days) -> String {
+    Day::ALL.into_iter().zip('1'..).filter(|(day, _)| d.contains(*day)).map(|(_, digit)| digit).collect()
+}
+
+/// ` on DAYS`, or nothing for all seven.
+fn on(d: Days) -> String {
+    if d == Days::EVERY_DAY {
+        return String::new();
+    }
+    format!(" on {}", days(d))
+}
+
 fn comparison(c: Comparison) -> &'static str {
     match c {
         Comparison::Eq => "eq",
@@ -162,8 +175,8 @@ fn trigger(t: Trigger, text: &[u8]) -> String {
         Trigger::InputPositionChange(of) => format!("input_position_change {}", input(of)),
         Trigger::InputDevicePowerCycled(of) => format!("input_device_power_cycled {}", reference(of)),
         Trigger::InputDeviceManualConfigChanged(of) => format!("input_device_manual_config_changed {}", reference(of)),
-        Trigger::AtTime(minutes) => format!("at_time {minutes}"),
-        Trigger::AtSolar(e, offset) => format!("at_solar {} {offset}", solar(e)),
+        Trigger::AtTime(minutes, d) => format!("at_time {minutes}{}", on(d)),
+        Trigger::AtSolar(e, offset, d) => format!("at_solar {} {offset}{}", solar(e), on(d)),
         Trigger::Every(ms) => format!("every {ms}"),
         Trigger::LampTurns(of, to) => format!("lamp_turns {} {}", reference(of), power(to)),
         Trigger::LampLevelCross(of, way, n) => format!("lamp_level_cross {} {} {n}", reference(of), crossing(way)),
@@ -203,6 +216,7 @@ fn condition(c: Condition, text: &[u8]) -> String {
         Condition::VarCompare(name, c, of) => {
             format!("var_compare {} {} {}", hex(name, text), comparison(c), operand(of, text))
         }
+        Condition::DayIn(d) => format!("day_in {}", days(d)),
     }
 }
 

@@ -1,4 +1,4 @@
--- Conditions, in document 01's order.
+-- Conditions, in document 01's order, and `day` of document 02.
 use Prim.Native.Nat.{ℕ, _≤_}
 use lib.ListN.{length}
 use Rattle.text.specs.Literal.{ascii}
@@ -10,12 +10,14 @@ use Rattle.references.specs.Grammar.{Q, Lamp, Group, Device, Target, One-instan
 use Rattle.model.specs.declared.Ref.{Ref}
 use Rattle.model.specs.declared.LightTarget.{LightTarget}
 use Rattle.model.specs.declared.InputRef.{InputRef}
+use Rattle.days.specs.Grammar.{Day-set}
 use Rattle.language.specs.Limits.{mostText}
 use Rattle.language.specs.grammar.Timeval.{Bound}
 use Rattle.language.specs.grammar.Expr.{Value-of}
 use Rattle.language.specs.grammar.Trigger.{On-off, Above-below, Occupied-vacant, Any-on-all-off}
 use Rattle.model.specs.declared.Name.{Name}
 use Rattle.model.specs.declared.Value.{Value}
+use Rattle.model.specs.declared.Days.{Days}
 use Rattle.model.specs.declared.TimeBound.{TimeBound}
 use Rattle.model.specs.declared.Occupancy.{Occupancy}
 use Rattle.model.specs.declared.Crossing.{Crossing}
@@ -30,7 +32,7 @@ use Rattle.model.specs.declared.Comparison.the-variants.{Eq, Ne, Ge, Le, Gt, Lt
 use Rattle.model.specs.declared.LampProperty.{LampProperty}
 use Rattle.model.specs.declared.Operand.{Operand}
 use Rattle.model.specs.declared.Condition.{Condition}
-use Rattle.model.specs.declared.Condition.the-variants.{TimeInRange, SunIs, LampIs, LampCompare, GroupState, InputOccupancy, InputLight, HclState, DeviceOnline, RuleEnabled, LastFiredOlderThan, TimerRunning, ControllerActive, VarCompare}
+use Rattle.model.specs.declared.Condition.the-variants.{TimeInRange, SunIs, LampIs, LampCompare, GroupState, InputOccupancy, InputLight, HclState, DeviceOnline, RuleEnabled, LastFiredOlderThan, TimerRunning, ControllerActive, VarCompare, DayIn}
 
 abbrev pub Up-down : (ℕ → Tok) → ℕ → Sun → ℕ → Type 0
 Up-down t i sun j = Either-word t (ascii "up") Up (ascii "down") Down i sun j
@@ -75,6 +77,9 @@ pub data Condition-of (t : ℕ → Tok) (view : View) (range : ℕ → Name) : �
   -- "time in bound..bound"
   time-in : {i j k l a m n : ℕ} {start end : TimeBound} → Word t (ascii "time") i j → Word t (ascii "in") j k → Bound t k start l →
       Token t POINTS l a m → Bound t m end n → Condition-of t view range i (TimeInRange start end) n
+  -- document 02, §1: "`day in` takes one as a condition"
+  day-in : {i j k l : ℕ} {days : Days} → Word t (ascii "day") i j → Word t (ascii "in") j k → Day-set t k days l →
+      Condition-of t view range i (DayIn days) l
   -- "group R any_on or all_off"
   group-state : {i j k l : ℕ} {r : Ref} {state : Aggregate} → Word t (ascii "group") i j → Group t view j r k → Any-on-all-off t k state l →
       Condition-of t view range i (GroupState r state) l

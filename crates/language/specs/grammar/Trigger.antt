@@ -1,4 +1,4 @@
--- Triggers, in document 01's order; `mqtt` is document 02's.
+-- Triggers, in document 01's order; `on` and `mqtt` are document 02's.
 use Prim.Native.Nat.{ℕ, _≤_}
 use mathlib.Core.Path.{_≡_}
 use mathlib.Core.Bool.{false}
@@ -18,9 +18,11 @@ use Rattle.model.specs.declared.LightTarget.{LightTarget}
 use Rattle.model.specs.declared.InputRef.{InputRef}
 use Rattle.model.specs.declared.Selector.{Selector}
 use Rattle.topics.specs.Topic.{forbidden}
+use Rattle.days.specs.Grammar.{On-days}
 use Rattle.language.specs.Limits.{leastPeriod}
 use Rattle.language.specs.grammar.Timeval.{Bound}
 use Rattle.model.specs.declared.Name.{Name}
+use Rattle.model.specs.declared.Days.{Days}
 use Rattle.model.specs.declared.SolarEvent.{SolarEvent}
 use Rattle.model.specs.declared.TimeBound.the-variants.{Clock, Solar}
 use Rattle.model.specs.declared.Event.{Event}
@@ -95,10 +97,11 @@ pub data Trigger-of (t : ℕ → Tok) (view : View) (range : ℕ → Name) : ℕ
       Trigger-of t view range i (MqttMessage (range j)) k
   -- "every DURATION", of at least 1,000 ms (35)
   every : {i j ms k : ℕ} → Word t (ascii "every") i j → Token t DURATION j ms k → leastPeriod ≤ ms → Trigger-of t view range i (Every ms) k
-  -- "at TIME or SOLAR"
-  at-time : {i j m k : ℕ} → Word t (ascii "at") i j → Bound t j (Clock m) k → Trigger-of t view range i (AtTime m) k
-  at-solar : {i j k : ℕ} {event : SolarEvent} {offset : ℤ} → Word t (ascii "at") i j → Bound t j (Solar event offset) k →
-      Trigger-of t view range i (AtSolar event offset) k
+  -- "at TIME or SOLAR"; document 02, §1: "After `at` and its TIME or SOLAR, `on` takes a day set"
+  at-time : {i j m k l : ℕ} {days : Days} → Word t (ascii "at") i j → Bound t j (Clock m) k → On-days t k days l →
+      Trigger-of t view range i (AtTime m days) l
+  at-solar : {i j k l : ℕ} {event : SolarEvent} {offset : ℤ} {days : Days} → Word t (ascii "at") i j → Bound t j (Solar event offset) k →
+      On-days t k days l → Trigger-of t view range i (AtSolar event offset days) l
   -- "scene (0..15 perhaps `, adapter = A`) recalled"
   scene-recalled : {i j a k scene l m b n o adapter : ℕ} {scope : Scope} → Word t (ascii "scene") i j → Token t OPEN j a k →
       Up-to t lastScene k scene l → Clause t view l scope m → Token t CLOSE m b n → Word t (ascii "recalled") n o →

@@ -1,5 +1,6 @@
 //! Fixed cases for the requests of document 02, to be stored behind the sample of document 01.
 
+mod days;
 mod profile;
 mod sheets;
 
@@ -14,6 +15,7 @@ pub fn requests() -> Vec<Case> {
     cases.extend(topics());
     cases.extend(profile::cases());
     cases.extend(sheets::cases());
+    cases.extend(days::cases());
     cases
 }
 

@@ -1,5 +1,6 @@
 //! What `answer` says, against the documents.
 
+mod days;
 mod first_questions;
 mod pairs;
 mod parties;

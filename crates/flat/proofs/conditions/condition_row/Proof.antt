@@ -56,4 +56,7 @@ condition-row-spec =
     (λ c. search conditions depth 16)
     (λ c. search needs)
     (λ c κs. search needs)
+    (λ c. search conditions depth 16)
+    (λ c. search needs)
+    (λ c κs. search needs)
     (λ c. search conditions depth 16))

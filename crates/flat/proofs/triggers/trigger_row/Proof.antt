@@ -34,8 +34,6 @@ trigger-row-spec =
     (λ c. search triggers depth 16)
     (λ c. search needs)
     (λ c κs. search needs)
-    (λ c κs. search needs)
-    (λ c κs. search needs)
     (λ c. search triggers depth 16)
     (λ c. search needs)
     (λ c κs. search needs)

@@ -7,7 +7,7 @@ abbrev Inv-loop : tie.InvT-loop
 Inv-loop list candidate k₀ k = Unit {0}
 
 abbrev μ-loop : tie.MeasureT-loop
-μ-loop list candidate k₀ k = 127 - k
+μ-loop list candidate k₀ k = 255 - k
 
 pub index-of-spec : {M : Type 1} → statement M
 index-of-spec =

@@ -9,7 +9,7 @@ abbrev Inv-loop : tie.InvT-loop
 Inv-loop list trial₀ start sheet words₀ line call marks₀ k₀ trial words marks k = (length trial ≡ length trial₀) × (length words ≡ length words₀) × (length marks ≡ length marks₀)
 
 abbrev μ-loop : tie.MeasureT-loop
-μ-loop list trial₀ start sheet words₀ line call marks₀ k₀ trial words marks k = 127 - k
+μ-loop list trial₀ start sheet words₀ line call marks₀ k₀ trial words marks k = 255 - k
 
 pub mark-spec : {M : Type 1} → statement M
 mark-spec =

@@ -7,7 +7,7 @@ abbrev Inv-loop : tie.InvT-loop
 Inv-loop list marks word k₀ k = Unit {0}
 
 abbrev μ-loop : tie.MeasureT-loop
-μ-loop list marks word k₀ k = 127 - k
+μ-loop list marks word k₀ k = 255 - k
 
 pub near-item-spec : {M : Type 1} → statement M
 near-item-spec =

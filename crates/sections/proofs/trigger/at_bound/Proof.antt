@@ -9,11 +9,9 @@ unfolding atBound
 at-bound-spec =
     tie.close
     (tie.spec
-    (λ c. search needs)
-    (λ c. search needs)
     (λ c κs. search needs)
-    (λ c κs. search needs)
-    (λ c. search times depth 12)
+    (λ c. search needs)
     (λ c. search times depth 12)
     (λ c. search needs)
+    (λ c κs. search needs)
     (λ c. search times depth 12))

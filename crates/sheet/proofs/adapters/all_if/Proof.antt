@@ -3,7 +3,8 @@ use mathlib.Core.Bool.{Bool, true, false}
 use Prim.Native.Nat.{_-_, _^_}
 use lib.ListN.{replicate}
 use borrow.Author.Needs.{needs}
-use Rattle.sheet.specs.Adapters.{wordBits, setWords, packed, bitsFrom, wordsFrom}
+use Rattle.text.specs.Bits.{bitsFrom}
+use Rattle.sheet.specs.Adapters.{wordBits, setWords, packed, wordsFrom}
 use Rattle.sheet.proofs.adapters.all_if.Statement.{statement}
 use Rattle.sheet.proofs.adapters.all_if.Tie as tie
 

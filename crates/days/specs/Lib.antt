@@ -1,0 +1,3 @@
+pub mod Days
+pub mod Grammar
+pub mod Read
