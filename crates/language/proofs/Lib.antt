@@ -16,5 +16,8 @@ pub mod Theorem
 pub mod ProfileTheorem
 pub mod HoldsLaws
 pub mod IsolationLaws
+pub mod SameLaws
+pub mod ReflowLaws
+pub mod ReflowTheorem
 pub mod FormerLaws
 pub mod Pairs

@@ -43,7 +43,7 @@ Reads text words view lent lists j =
     Read-with (tokens text words) view (rangeOf words) (topicsWith text lent) (capacity words) (lists .triggers) (lists .conditions)
 
 -- a text whose bytes are characters passes question 4
-passes : {text characters : List ℕ} → Utf8-octets text characters → checkOf text ≡ WellFormed
+pub passes : {text characters : List ℕ} → Utf8-octets text characters → checkOf text ≡ WellFormed
 passes {text} h = judged-one (judged text) (judged-well h)
 
 -- past the records there is no token

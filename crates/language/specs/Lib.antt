@@ -11,4 +11,6 @@ pub mod Read
 pub mod Demand
 pub mod Profile
 pub mod Isolation
+pub mod Same
+pub mod Reflow
 pub mod grammar

@@ -12,6 +12,7 @@ use crate::source;
 use crate::stands;
 use crate::title;
 use sheet::Call;
+use sheet::Habit;
 
 // The count of the text's tokens; 0 if it cannot be cut into tokens.
 fn token_count(text: &[u8], words: &mut [u32]) -> usize {
@@ -111,4 +112,14 @@ pub fn show(
         explained(text, sheet, lent, words, text_name, f);
     }
     verdict(answer);
+}
+
+// The diagnostic of what the answer of lexing refuses, in which no sheet and no topic plays a part.
+pub fn uncut(text: &[u8], words: &mut [u32], answer: &[u32], name: &[u8]) {
+    let call = Call {
+        habit: Habit::Rule,
+        party: 0,
+        primary: 0,
+    };
+    show(text, b"", b"", words, answer, name, name, call);
 }

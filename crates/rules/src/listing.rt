@@ -6,8 +6,6 @@ use crate::out;
 use crate::reading;
 use crate::say;
 use crate::stands;
-use sheet::Call;
-use sheet::Habit;
 
 fn place(words: &[u32], i: usize) {
     let row = [
@@ -44,17 +42,12 @@ fn accepted(text: &[u8], words: &[u32], answer: &[u32]) {
     say::numbers(answer, b"accepted: %n3 token%P3\n");
 }
 
-// The tokens of the text, or the refusal of lexing, in which no sheet and no topic plays a part.
+// The tokens of the text, or the refusal of lexing.
 fn answered(text: &[u8], name: &[u8]) {
     let mut words = [0u32; tokens::lexer::LEAST_WORDS];
     let mut answer = [0u32; 4];
     if reading::lex(text, &mut words, &mut answer) != 0 {
-        let call = Call {
-            habit: Habit::Rule,
-            party: 0,
-            primary: 0,
-        };
-        diagnose::show(text, b"", b"", &mut words, &answer, name, name, call);
+        diagnose::uncut(text, &mut words, &answer, name);
         return;
     }
     accepted(text, &words, &answer);

@@ -1,6 +1,7 @@
 // The program `rules`: checks a rule against a name sheet, for whoever writes the two. `rules help` says how it is called.
 mod chain_list;
 mod checking;
+mod comparing;
 mod day;
 mod diagnose;
 mod expected;
@@ -41,10 +42,11 @@ fn usage() {
 
   rules check RULES SHEET   reads the rule in the file RULES with the name sheet in the file SHEET
   rules tokens RULES        lists the words, numbers and signs of the rule
+  rules same A B            says whether the rules in the files A and B are the same, layout aside
   rules chains              lists every short chain of conditions, one a line
   rules help                prints this
 
-Options of check stand before its files:
+Options stand before the files of check; the others have none:
 
   --archive       reads as the archive loader does: a repeated argument of an input replaces the earlier one; otherwise
                   a repeat is refused
@@ -59,6 +61,10 @@ Options of check stand before its files:
                   topic is refused if eight others or more are named already. The lines are taken as they come, empty
                   ones aside: a CR at the end of a line belongs to its topic. FILE has at most 16,384 bytes
 
+same compares the words, texts, values and signs of two rules one by one; comments and white space do not count, and 5s
+is the value of 5000ms. If all are the same, both rules are read alike with the same sheet and options, which is proved.
+Otherwise same shows the first difference in both, and says no more: check shows how each is read.
+
 chains is for comparing readers. It takes no files and prints the 636 chains of one to four conditions, joined by `and`,
 that are accepted and have at most fifteen words, numbers and signs, all of these:
 lamp sun time is in on off up down sunrise sunset level and 0 63 64 ( ) . .. == + -
@@ -67,10 +73,11 @@ Shorter ones come first, then they follow the order of this line, word by word.
 check prints each trigger and each condition in plain words, or one refusal: its place, what stands there, what
 belongs there, and a way out. Days, as in `at 7:05 on sun, mon..fri` or `day in sat, sun`, are shown from Monday to
 Sunday however the rule has them, three or more in a row by the first and the last: `mon to fri, sun`. The last line
-begins with `accepted`, or with `refused` and the refusal's number; if the arguments are bad or a file cannot be read,
-it says that behind `refused`. The exit status of this program is always 0, since its language cannot set another. The
-script ./rules, which runs it, gives 0 for accepted, 1 for refused, 2 for bad arguments and for files that cannot be
-read.
+begins with `accepted`, or with `refused` and the refusal's number; that of same with `same` or `different`, or with
+`refused` and the number if one of the texts is refused with 1, 4 or 10 to 19. If the arguments are bad or a file
+cannot be read, it says that behind `refused`. The exit status of this program is always 0, since its language cannot
+set another. The script ./rules, which runs it, gives 0 for accepted and same, 1 for refused and different, 2 for bad
+arguments and for files that cannot be read.
 ",
     );
 }
@@ -84,10 +91,11 @@ fn bad_arguments(wrong: u32) {
 4 behind --party, as behind --primary, stands a number from 0 to 255 without leading zeros
 5 an option is given twice
 6 --archive and --shop do not go together
-7 nothing stands behind chains";
+7 nothing stands behind chains
+8 same takes two files, both of them rules, and no option; before the name of a file that begins with a dash write ./";
     out::entry(table, wrong);
     out::bytes(
-        b"\nusage: rules check [--archive | --shop] [--party P] [--primary A] [--topics FILE] RULES SHEET | rules tokens RULES | rules chains | rules help\nrefused: bad arguments\n",
+        b"\nusage: rules check [--archive | --shop] [--party P] [--primary A] [--topics FILE] RULES SHEET | rules tokens RULES | rules same A B | rules chains | rules help\nrefused: bad arguments\n",
     );
 }
 
@@ -123,6 +131,14 @@ fn list(count: usize) {
     bad_arguments(2);
 }
 
+fn compare(count: usize) {
+    if count == 4 && !options::is_option(2) {
+        comparing::run();
+        return;
+    }
+    bad_arguments(8);
+}
+
 fn chains(count: usize) {
     if count == 2 {
         chain_list::run();
@@ -139,6 +155,10 @@ fn run(command: &[u8], count: usize) {
     }
     if text::part::same(command, b"tokens") {
         list(count);
+        return;
+    }
+    if text::part::same(command, b"same") {
+        compare(count);
         return;
     }
     if text::part::same(command, b"chains") {

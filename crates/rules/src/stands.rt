@@ -156,14 +156,19 @@ fn uncut(text: &[u8], f: Fault) {
     number(text, i);
 }
 
+// The token with an index, or the end of a text that has so many.
+pub fn at(text: &[u8], words: &[u32], i: usize, count: usize) {
+    if i < count {
+        token(text, words, i);
+        return;
+    }
+    out::bytes(b"the text ends here");
+}
+
 pub fn show(text: &[u8], words: &[u32], f: Fault) {
     if f.number < 20 {
         uncut(text, f);
         return;
     }
-    if f.token < f.count {
-        token(text, words, f.token);
-        return;
-    }
-    out::bytes(b"the text ends here");
+    at(text, words, f.token, f.count);
 }

@@ -1,6 +1,6 @@
 //! What a case covered, read off its answer in the replay format, and off its text for what the answer does not say.
 
-use crate::{days, durations, parties, profile, records, repeats, sheets, topics};
+use crate::{days, durations, layout, parties, profile, records, repeats, sheets, topics};
 use cases::Case;
 use std::io::{self, Write};
 
@@ -222,11 +222,16 @@ pub struct Coverage {
     pub refused: u64,
     /// Cases that were compared with the same call on a sheet beside theirs.
     pub beside: u64,
+    /// Cases that were compared with the same call on a reflowed text, and how many of them showed each sort of layout. These are no
+    /// features: a case alone does not show them.
+    pub reflowed: u64,
+    layouts: Vec<u64>,
 }
 
 impl Default for Coverage {
     fn default() -> Coverage {
-        Coverage { counts: vec![0; feature_count()], cases: 0, in_domain: 0, accepted: 0, refused: 0, beside: 0 }
+        let (counts, layouts) = (vec![0; feature_count()], vec![0; layout::SORTS.len()]);
+        Coverage { counts, cases: 0, in_domain: 0, accepted: 0, refused: 0, beside: 0, reflowed: 0, layouts }
     }
 }
 
@@ -241,19 +246,31 @@ impl Coverage {
         self.refused += u64::from(!accepted);
     }
 
+    /// A case that was compared on a reflowed text, with the sorts of layout that both texts show.
+    pub fn add_reflowed(&mut self, sorts: &[String]) {
+        let shown = |sort: &&str| sorts.iter().any(|shown| shown == sort);
+        layout::SORTS.iter().zip(&mut self.layouts).for_each(|(sort, count)| *count += u64::from(shown(sort)));
+        self.reflowed += 1;
+    }
+
     pub fn merge(&mut self, other: &Coverage) {
         self.counts.iter_mut().zip(&other.counts).for_each(|(a, b)| *a += b);
+        self.layouts.iter_mut().zip(&other.layouts).for_each(|(a, b)| *a += b);
         self.cases += other.cases;
         self.in_domain += other.in_domain;
         self.accepted += other.accepted;
         self.refused += other.refused;
         self.beside += other.beside;
+        self.reflowed += other.reflowed;
     }
 
     /// The names of what no case showed.
     pub fn zeros(&self) -> Vec<String> {
         let features = (0..self.counts.len()).filter(|&at| self.counts[at] == 0).map(feature_name);
-        features.chain((self.beside == 0).then(|| "a sheet beside".to_string())).collect()
+        let layouts = layout::SORTS.iter().zip(&self.layouts).filter(|(_, count)| **count == 0).map(|(sort, _)| format!("layout {sort}"));
+        let pairs = [(self.beside, "a sheet beside"), (self.reflowed, "a reflowed text")];
+        let pairs = pairs.into_iter().filter(|(count, _)| *count == 0).map(|(_, name)| name.to_string());
+        features.chain(layouts).chain(pairs).collect()
     }
 
     pub fn print(&self, out: &mut impl Write) -> io::Result<()> {
@@ -266,8 +283,14 @@ impl Coverage {
             }
             writeln!(out)?;
         }
-        let Coverage { cases, in_domain, accepted, refused, beside, .. } = self;
+        write!(out, "layout:")?;
+        for (sort, count) in layout::SORTS.iter().zip(&self.layouts) {
+            write!(out, " {sort}={count}")?;
+        }
+        let Coverage { cases, in_domain, accepted, refused, beside, reflowed, .. } = self;
+        writeln!(out)?;
         writeln!(out, "{cases} cases: {in_domain} in the domain, {accepted} accepted, {refused} refused")?;
-        writeln!(out, "{beside} of them compared with the same call on a sheet beside theirs")
+        writeln!(out, "{beside} of them compared with the same call on a sheet beside theirs")?;
+        writeln!(out, "{reflowed} of them compared with the same call on a reflowed text")
     }
 }

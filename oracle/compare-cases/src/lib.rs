@@ -5,11 +5,13 @@ mod days;
 mod durations;
 pub mod external;
 pub mod features;
+mod layout;
 pub mod options;
 mod parties;
 mod profile;
 pub mod readers;
 mod records;
+pub mod reflowed;
 mod repeats;
 pub mod run;
 mod sheets;
@@ -18,5 +20,7 @@ mod tokens;
 mod topics;
 pub mod vectors;
 
+#[cfg(test)]
+mod layout_tests;
 #[cfg(test)]
 mod tests;

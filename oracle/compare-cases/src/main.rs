@@ -97,12 +97,18 @@ fn report(options: &Options, readers: &Readers, difference: &Difference) -> io::
     if small.other == Other::Beside {
         println!("beside it\n{}", generate::beside(&small.case).sheet.escape_ascii());
     }
+    let reflowed = small.reflowed.as_ref().map(|text| Case { text: text.clone(), ..small.case.clone() });
+    if let Some(reflowed) = &reflowed {
+        println!("reflowed\n{}", reflowed.text.escape_ascii());
+    }
     println!("--- the second reader\n{}", readers.second(&small.case));
     println!("--- {}\n{}", small.other.name(), small.answer);
-    match &options.smallest {
-        Some(path) => write_case(&mut File::create(path)?, &small.case),
-        None => Ok(()),
+    let Some(path) = &options.smallest else { return Ok(()) };
+    let mut file = File::create(path)?;
+    for case in [&small.case].into_iter().chain(&reflowed) {
+        write_case(&mut file, case)?;
     }
+    Ok(())
 }
 
 /// Chooses and writes the vectors; true if every feature has enough of them and the readers agree on all.

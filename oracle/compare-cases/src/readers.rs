@@ -2,16 +2,21 @@
 
 use crate::external::External;
 use crate::profile::refused_by_profile;
+use crate::reflowed::{reflow, Reflowed};
 use crate::tokens::refusal;
 use cases::{Case, Habit};
 use std::cell::Cell;
 use std::panic::{self, AssertUnwindSafe};
 
+/// How many layouts of one text are tried while a difference is made small.
+const ATTEMPTS: u64 = 12;
+
 pub type Reader<'a> = &'a (dyn Fn(&Case) -> String + Sync);
 
 /// The second reader answers every case; the supplied one is held to it inside the domain, the replay program, if
 /// there is one, everywhere. The second reader's default call is held to its own archive call, its shop call to its default call,
-/// and its call on one sheet to the same call on another that agrees for the party.
+/// its call on one sheet to the same call on another that agrees for the party, and its call on one text to the same call on another
+/// with the same tokens.
 pub struct Readers<'a> {
     pub second: Reader<'a>,
     pub in_domain: &'a (dyn Fn(&Case) -> bool + Sync),
@@ -34,6 +39,9 @@ pub enum Other {
     /// The second reader's call on another sheet. "For two accepted sheets that agree on which adapters are the party's, and on
     /// those adapters' rows in their order, the party's call gives the same answer" (document 02 §6).
     Beside,
+    /// The second reader's call on another text with the same tokens, which gets "equal lists, names compared by bytes, or the same
+    /// refusal number and detail at the corresponding token or at both ends (2, 3 and 53 at the same place)" (document 02 §14).
+    Reflowed,
 }
 
 impl Other {
@@ -44,6 +52,7 @@ impl Other {
             Other::Archive => "the archive call",
             Other::Default => "the default call",
             Other::Beside => "the call on a sheet that agrees for the party",
+            Other::Reflowed => "the call on the reflowed text, with the places of the first one,",
         }
     }
 }
@@ -114,7 +123,25 @@ impl Readers<'_> {
                 let accepted = past_question_3(&self.second(case));
                 accepted.then(|| self.second(&generate::beside(case)))
             }
+            Other::Reflowed => self.unlike_reflowed(case).map(|(_, answer)| answer),
         }
+    }
+
+    /// The answer to the call on a reflowed text, with the case's own places.
+    pub fn carried_back(&self, reflowed: &Reflowed) -> String {
+        reflowed.carried_back(&self.second(&reflowed.case))
+    }
+
+    /// A reflowed text, of a few that are tried, on which the call says something else than on the case, and what it says. A text that
+    /// the generator got wrong is none.
+    pub fn unlike_reflowed(&self, case: &Case) -> Option<(Reflowed, String)> {
+        let own = self.second(case);
+        let tried = (0..ATTEMPTS).filter_map(|attempt| reflow(case, attempt).ok().flatten());
+        let mut answered = tried.map(|reflowed| {
+            let answer = self.carried_back(&reflowed);
+            (reflowed, answer)
+        });
+        answered.find(|(_, answer)| *answer != own)
     }
 
     pub fn differs(&self, other: Other, case: &Case) -> bool {

@@ -1,9 +1,12 @@
 //! A run over many cases, in batches, on one thread or more.
 
 use crate::features::Coverage;
+use crate::layout;
 use crate::readers::{past_question_3, refused_as_repeat, under_the_profile, Other, Readers};
-use crate::shrink::shrink;
+use crate::reflowed::{reflow, Reflowed};
+use crate::shrink::{shrink, shrink_text};
 use cases::{Case, Habit};
+use generate::Rng;
 use std::io;
 use std::sync::atomic::{AtomicU64, Ordering};
 use std::thread;
@@ -28,6 +31,14 @@ pub struct Difference {
     pub answer: String,
     /// Whether the difference shows on this case alone; if not, only after the cases before it.
     pub alone: bool,
+    /// The reflowed text that got the other answer, if it is one.
+    pub reflowed: Option<Vec<u8>>,
+}
+
+impl Difference {
+    fn alone(case: Case, other: Other, answer: String) -> Difference {
+        Difference { case, other, answer, alone: true, reflowed: None }
+    }
 }
 
 #[derive(Debug)]
@@ -102,7 +113,8 @@ fn tell(plan: &Plan, shared: &Shared, more: u64) {
     }
 }
 
-/// Compares the cases of one batch, in order. The replay program gets the sheets beside theirs too, and must give the same.
+/// Compares the cases of one batch, in order. The replay program gets the sheets beside theirs too, and must give the same, and the
+/// reflowed texts. A reflowed text with other tokens is a fault of the generator, and the run fails.
 fn compare(cases: &[Case], readers: &Readers, coverage: &mut Coverage) -> io::Result<Option<Difference>> {
     let mut asked = Vec::with_capacity(cases.len() * 2);
     let mut answers = Vec::with_capacity(cases.len() * 2);
@@ -119,12 +131,32 @@ fn compare(cases: &[Case], readers: &Readers, coverage: &mut Coverage) -> io::Re
             asked.push(case);
             answers.push(answer.clone());
         }
+        let Some(reflowed) = reflowed(case)? else { continue };
+        let said = readers.second(&reflowed.case);
+        if let Some(found) = compare_reflowed(case, &answer, &reflowed, &said) {
+            return Ok(Some(found));
+        }
+        coverage.add_reflowed(&layout::sorts(case, &answer, &reflowed));
+        asked.push(reflowed.case);
+        answers.push(said);
     }
     let Some(replay) = &readers.replay else { return Ok(None) };
     let mut replayed = replay.answers(&asked)?;
     let Some(at) = (0..asked.len()).find(|&at| replayed[at] != answers[at]) else { return Ok(None) };
     let answer = std::mem::take(&mut replayed[at]);
     Ok(Some(isolate(&asked, at, answer, readers)))
+}
+
+/// A quarter of the cases are compared with the same call on a reflowed text, if their own passes questions 1 and 4 and the lexer.
+fn reflowed(case: &Case) -> io::Result<Option<Reflowed>> {
+    let chosen = Rng::new(case.id, 1).once_in(4);
+    if chosen { reflow(case, 0).map_err(io::Error::other) } else { Ok(None) }
+}
+
+fn compare_reflowed(case: &Case, answer: &str, reflowed: &Reflowed, said: &str) -> Option<Difference> {
+    let other = reflowed.carried_back(said);
+    let text = Some(reflowed.case.text.clone());
+    (other != answer).then(|| Difference { reflowed: text, ..Difference::alone(case.clone(), Other::Reflowed, other) })
 }
 
 /// Every sheet with party rows gets one beside it, and some of the others, which are all alike to party 0.
@@ -135,7 +167,7 @@ fn has_beside(case: &Case, answer: &str) -> bool {
 
 fn compare_beside(case: &Case, answer: &str, beside: Option<&Case>, readers: &Readers) -> Option<Difference> {
     let other = readers.second(beside?);
-    (other != answer).then(|| Difference { case: case.clone(), other: Other::Beside, answer: other, alone: true })
+    (other != answer).then(|| Difference::alone(case.clone(), Other::Beside, other))
 }
 
 /// The archive call of a case against the supplied Rust, if the domain has it, its default call against its archive call, and its
@@ -145,7 +177,7 @@ fn compare_habits(case: &Case, readers: &Readers) -> (bool, Option<Difference>) 
     let [old, new, shop_says] = [&archive, &default, &shop].map(|case| readers.second(case));
     let supplied = readers.other(Other::Supplied, &archive);
     let in_domain = supplied.is_some();
-    let differs = |case, other, answer| (in_domain, Some(Difference { case, other, answer, alone: true }));
+    let differs = |case, other, answer| (in_domain, Some(Difference::alone(case, other, answer)));
     if let Some(answer) = supplied.filter(|supplied| *supplied != old) {
         return differs(archive, Other::Supplied, answer);
     }
@@ -167,9 +199,9 @@ fn isolate(cases: &[Case], at: usize, answer: String, readers: &Readers) -> Diff
     match alone {
         Some(case) => {
             let answer = readers.other(other, case).unwrap_or_default();
-            Difference { case: case.clone(), other, answer, alone: true }
+            Difference::alone(case.clone(), other, answer)
         }
-        None => Difference { case: cases[at].clone(), other, answer, alone: false },
+        None => Difference { alone: false, ..Difference::alone(cases[at].clone(), other, answer) },
     }
 }
 
@@ -179,9 +211,26 @@ pub fn smallest(difference: &Difference, readers: &Readers) -> Difference {
     if !difference.alone {
         return difference.clone();
     }
-    // A process for each try is slow, so the replay program gets fewer.
-    let tries = if other == Other::Replay { 5_000 } else { 200_000 };
+    // A process for each try is slow, so the replay program gets fewer; and so are several layouts.
+    let tries = match other {
+        Other::Replay => 5_000,
+        Other::Reflowed => 20_000,
+        _ => 200_000,
+    };
     let case = shrink(&difference.case, tries, &mut |case| readers.differs(other, case));
+    if other == Other::Reflowed {
+        return smallest_reflowed(difference, case, tries, readers);
+    }
     let answer = readers.other(other, &case).unwrap_or_default();
     Difference { case, answer, ..difference.clone() }
+}
+
+/// The difference on this case, with a reflowed text that is small too. If none of the layouts tried shows it, it stays as it was.
+fn smallest_reflowed(difference: &Difference, case: Case, tries: usize, readers: &Readers) -> Difference {
+    let Some((found, _)) = readers.unlike_reflowed(&case) else { return difference.clone() };
+    let own = readers.second(&case);
+    let said = |text: &[u8]| Reflowed::of(&case, text.to_vec()).map(|reflowed| readers.carried_back(&reflowed));
+    let text = shrink_text(&found.case.text, tries, &mut |text| said(text).is_some_and(|answer| answer != own));
+    let answer = said(&text).unwrap_or_default();
+    Difference { case, answer, reflowed: Some(text), ..difference.clone() }
 }

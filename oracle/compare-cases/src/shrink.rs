@@ -2,7 +2,12 @@
 
 use cases::{Case, LEAST_WORDS as USUAL_WORDS};
 
-/// A case as small as dropping rows of the sheet, lent topics, tokens and bytes makes it, with `shows` true of it all the
+type Split = fn(&[u8]) -> Vec<&[u8]>;
+
+/// How a text is cut into pieces, one way after the other.
+const TEXT_SPLITS: [Split; 4] = [clauses, tokens, characters, bytes];
+
+/// A case as small as dropping rows of the sheet, lent topics, clauses, tokens and bytes makes it, with `shows` true of it all the
 /// way. `shows` is asked at most `tries` times. If it is not true of `case`, that comes back as it is.
 pub fn shrink(case: &Case, tries: usize, shows: &mut dyn FnMut(&Case) -> bool) -> Case {
     let mut left = tries;
@@ -16,18 +21,36 @@ pub fn shrink(case: &Case, tries: usize, shows: &mut dyn FnMut(&Case) -> bool) -
         with_usual_words(&mut best, &mut shows);
         without_settings(&mut best, &mut shows);
         without_parties(&mut best, &mut shows);
-        for split in [lines as fn(&[u8]) -> Vec<&[u8]>, bytes] {
+        for split in [lines as Split, bytes] {
             best.sheet = drop_pieces(&best.sheet, split, &mut |sheet| shows(&Case { sheet: sheet.to_vec(), ..best.clone() }));
         }
         // A `case` line has none to drop, and stays one.
-        for split in [lines as fn(&[u8]) -> Vec<&[u8]>, bytes] {
+        for split in [lines as Split, bytes] {
             let topics = drop_pieces(best.topics(), split, &mut |topics| shows(&best.with_topics(topics)));
             best = if best.settings.is_some() { best.with_topics(topics) } else { best };
         }
-        for split in [tokens as fn(&[u8]) -> Vec<&[u8]>, bytes] {
+        for split in TEXT_SPLITS {
             best.text = drop_pieces(&best.text, split, &mut |text| shows(&Case { text: text.to_vec(), ..best.clone() }));
         }
         if weight(&best) == size {
+            return best;
+        }
+    }
+}
+
+/// A text as small as dropping its pieces makes it, in the same way.
+pub fn shrink_text(text: &[u8], tries: usize, shows: &mut dyn FnMut(&[u8]) -> bool) -> Vec<u8> {
+    let mut left = tries;
+    let mut best = text.to_vec();
+    loop {
+        let size = best.len();
+        for split in TEXT_SPLITS {
+            best = drop_pieces(&best, split, &mut |text| {
+                left = left.saturating_sub(1);
+                left > 0 && shows(text)
+            });
+        }
+        if best.len() == size {
             return best;
         }
     }
@@ -63,7 +86,7 @@ fn without_parties(best: &mut Case, shows: &mut dyn FnMut(&Case) -> bool) {
 }
 
 /// Drops runs of pieces, first half of them at once, then a quarter, down to single ones.
-fn drop_pieces(whole: &[u8], split: fn(&[u8]) -> Vec<&[u8]>, shows: &mut dyn FnMut(&[u8]) -> bool) -> Vec<u8> {
+fn drop_pieces(whole: &[u8], split: Split, shows: &mut dyn FnMut(&[u8]) -> bool) -> Vec<u8> {
     let mut pieces = split(whole);
     let mut run = pieces.len().div_ceil(2);
     while run > 0 {
@@ -88,6 +111,36 @@ fn lines(whole: &[u8]) -> Vec<&[u8]> {
 
 fn bytes(whole: &[u8]) -> Vec<&[u8]> {
     whole.chunks(1).collect()
+}
+
+/// Characters; a byte that belongs to none is a piece too.
+fn characters(whole: &[u8]) -> Vec<&[u8]> {
+    let mut pieces = Vec::new();
+    for chunk in whole.utf8_chunks() {
+        let mut rest = chunk.valid();
+        while let Some(c) = rest.chars().next() {
+            let (piece, behind) = rest.split_at(c.len_utf8());
+            pieces.push(piece.as_bytes());
+            rest = behind;
+        }
+        pieces.extend(chunk.invalid().chunks(1));
+    }
+    pieces
+}
+
+/// What stands before the first `when`, `if` or `and`, and each of these with what stands behind it.
+fn clauses(text: &[u8]) -> Vec<&[u8]> {
+    let mut pieces = Vec::new();
+    let (mut from, mut at) = (0, 0);
+    for token in tokens(text) {
+        if at > from && matches!(token.trim_ascii_end(), b"when" | b"if" | b"and") {
+            pieces.push(&text[from..at]);
+            from = at;
+        }
+        at += token.len();
+    }
+    pieces.push(&text[from..]);
+    pieces
 }
 
 /// Words, numbers, strings and single other bytes, each with the white space behind it.

@@ -1,11 +1,12 @@
 use crate::external::split_answers;
 use crate::features::{feature_count, feature_name, Coverage, Features, MOST_FEATURES};
+use crate::layout;
 use crate::options;
 use crate::profile;
 use crate::readers::{guarded, past_question_3, quiet_panics, Other, Reader, Readers};
 use crate::run::{run, smallest, Difference, Outcome, Plan};
 use crate::shrink::shrink;
-use crate::tokens::{refusal, tokens, Token};
+use crate::tokens::{refusal, tokens, Token, STRING};
 use crate::vectors;
 use cases::{own_primary, Case, Habit, FORMER_LEAST_WORDS, LEAST_WORDS, MOST_WORDS};
 
@@ -55,9 +56,11 @@ fn a_group_id_of_16_is_found() {
     }
 }
 
-/// The count and the adapters of the rows with the first quoted name: 33 on one adapter, 34 on several.
+/// The count and the adapters of the rows with the name in the first string token: 33 on one adapter, 34 on several.
 fn by_rows(case: &Case) -> u32 {
-    let Some(name) = case.text.split(|&b| b == b'"').nth(1) else { return 0 };
+    let records = second::lexing(&case.text, LEAST_WORDS).0.records;
+    let Some([_, _, start, length, _]) = records.iter().find(|record| record[0] == STRING) else { return 0 };
+    let name = &case.text[*start as usize..(start + length) as usize];
     let rows: Vec<Vec<&[u8]>> = cases::lines(&case.sheet).into_iter().map(cases::fields).collect();
     let adapters: Vec<&[u8]> = rows.iter().filter(|row| row.len() == 4 && row[0] == b"lamp" && row[3] == name).map(|row| row[1]).collect();
     match adapters.len() {
@@ -109,6 +112,20 @@ fn shrinking_leaves_what_matters() {
     });
     assert_eq!((small.text.as_slice(), small.sheet.as_slice(), small.words), (&b"turns#"[..], &b"lamp,1"[..], LEAST_WORDS));
     assert!(asked < 500, "{asked}");
+}
+
+/// A trigger is dropped as a whole, and so is a character of several bytes.
+#[test]
+fn shrinking_keeps_texts_that_are_read() {
+    let text = "# \u{3000}\u{1f4a1}\nwhen timer(\"\u{e9}\") fires when every 5s when lamp(\"a\") turns on if sun is up and sun is down and time in 7:05..8:00";
+    let case = Case::new(1, LEAST_WORDS, text, b"primary,0\nlamp,0,1,a\n");
+    let small = |line: &str| {
+        let small = shrink(&case, 10_000, &mut |case| second::answer(case).contains(line));
+        String::from_utf8(small.text).expect("a text that is read")
+    };
+    assert_eq!(small("\nT every 5000\n"), "when every 5s");
+    assert_eq!(small("\nC sun_is down\n"), "when lamp(\"a\")turns on if sun is down");
+    assert_eq!(small("\nT timer_fires xc3a9\n"), "when timer(\"\u{e9}\")fires");
 }
 
 #[test]
@@ -772,7 +789,11 @@ fn coverage_counts_cases_and_names_zeros() {
     assert_eq!((both.cases, both.in_domain, both.accepted, both.refused), (4, 2, 2, 2));
     let zeros = both.zeros();
     assert!(zeros.contains(&"refused 40".to_string()) && !zeros.contains(&"refused 41".to_string()));
-    assert_eq!(zeros.len(), feature_count() - 6 + 1);
+    both.add_reflowed(&["CR LF".to_string(), "refused 20".to_string()]);
+    both.merge(&both.clone());
+    assert!(both.reflowed == 2 && zeros.contains(&"layout CR LF".to_string()) && !both.zeros().contains(&"layout CR LF".to_string()));
+    assert_eq!(zeros.len(), feature_count() - 6 + layout::SORTS.len() + 2);
+    assert_eq!(both.zeros().len(), zeros.len() - 3);
 }
 
 #[test]

@@ -1,8 +1,11 @@
 //! Fixed cases for the requests of document 02, to be stored behind the sample of document 01.
 
 mod days;
+mod layout;
 mod profile;
 mod sheets;
+
+pub use layout::LAYOUTS;
 
 use cases::{Case, Habit, Settings, FORMER_LEAST_WORDS, LEAST_WORDS, MOST_TOKENS, MOST_WORDS};
 
@@ -16,6 +19,7 @@ pub fn requests() -> Vec<Case> {
     cases.extend(profile::cases());
     cases.extend(sheets::cases());
     cases.extend(days::cases());
+    cases.extend(layout::cases());
     cases
 }
 
