@@ -19,7 +19,8 @@ use Rattle.tokens.specs.Kind.{WORD, INTEGER, OPEN, CLOSE, POINT, POINTS, EQ, PL
 use Rattle.tokens.specs.Record.{capacity, halfWord, placeWord, wordsOf, wordAt, kindAt, numberAt, startAt, lengthAt, bytesAt}
 use Rattle.tokens.specs.Scan.{passed, triviaMode, trivia, withDigit, digits}
 use Rattle.tokens.specs.Token.{singleKind, pairKind, single, punct, point, numberAt as tokens-numberAt, number, word as word-token, tokenAt}
-use Rattle.tokens.specs.Lex.{recordOf, lexFrom, lexText}
+use Rattle.tokens.specs.Lexing.{recordOf}
+use Rattle.tokens.specs.Lex.{lexFrom, lexText}
 use Rattle.tokens.specs.Ended.{recordWords}
 use Rattle.tokens.specs.Cursor.{Tok, bytesOf, tokens}
 use Rattle.text.proofs.Computed.{under, below}

@@ -16,10 +16,12 @@ use Rattle.text.proofs.PlaceRules.{judged}
 use Rattle.text.specs.declared.place.Checked.{Checked}
 use Rattle.text.specs.declared.place.Checked.the-variants.{WellFormed, IllFormed}
 use Rattle.tokens.specs.declared.record.Record.{Record}
-use Rattle.tokens.specs.Lex.{Lexing, token, lexText, writtenFrom, mostTokens, mostBytes, leastWords}
+use Rattle.tokens.specs.Lexing.{Lexing, token, mostTokens, mostBytes, leastWords}
+use Rattle.tokens.specs.Lex.{lexText, writtenFrom}
 use Rattle.tokens.specs.Ended.{Ended, at-end, behind, recordWords}
 use Rattle.tokens.specs.Layout.{Laid, end, refusal, next}
 use Rattle.tokens.proofs.LayoutLaws.{laid}
+use Rattle.tokens.proofs.RulesLaws.{text-sound}
 use Rattle.tokens.proofs.BufferLaws.{lexical}
 use Rattle.sheet.specs.Sheet.{Sheet, well-formed, bad-line, sheetCheck}
 use Rattle.sheet.specs.View.{View, ownPrimary}
@@ -80,9 +82,8 @@ module _ (call : Call) (text sheet lent words : List ℕ) where
 
   module _ (short : length text ≤ mostBytes) where
     gives-by : {characters : List ℕ} {count : ℕ} → Utf8-octets text characters → Ended (lexText text) count → Gives text (lexText text) count
-    unfolding lexText
     gives-by {characters} octets h =
-        record { short = short; characters = characters; octets = octets; most = mostTokens; lexed = refl; finished = h }
+        record { short = short; characters = characters; octets = octets; most = mostTokens; lexed = text-sound octets; finished = h }
 
     module _ (room : leastWords ≤ length words) where
       module _ (sheet-passes : sheetCheck sheet ≡ well-formed) where

@@ -15,7 +15,8 @@ use Rattle.text.specs.declared.place.Checked.the-variants.{WellFormed, IllForme
 use Rattle.tokens.specs.Result.{Res}
 use Rattle.tokens.specs.Record.{bytesAt}
 use Rattle.tokens.specs.Cursor.{Tok, bytesOf, tokens}
-use Rattle.tokens.specs.Lex.{Lexing, ended, refused, token, lexText, mostBytes, leastWords}
+use Rattle.tokens.specs.Lexing.{Lexing, ended, refused, token, mostBytes, leastWords}
+use Rattle.tokens.specs.Lex.{lexText}
 use Rattle.tokens.specs.Ended.{recordWords}
 use Rattle.tokens.specs.Placed.{recordAt}
 use Rattle.tokens.specs.declared.record.Record.{Record}

@@ -13,7 +13,8 @@ use Rattle.tokens.specs.Record.{capacity}
 use Rattle.tokens.specs.Cursor.{Tok, tokens, isWord}
 use Rattle.tokens.specs.Grammar.{Word, a-word}
 use Rattle.tokens.specs.Phrase.{choiceAt, wordsIn}
-use Rattle.tokens.specs.Lex.{Lexing, lexText, writtenFrom}
+use Rattle.tokens.specs.Lexing.{Lexing}
+use Rattle.tokens.specs.Lex.{lexText, writtenFrom}
 use Rattle.tokens.specs.Ended.{recordWords}
 use Rattle.tokens.proofs.PhraseLaws.{choice-sound}
 use Rattle.sheet.specs.View.{View, mayRepeat, anyForm, seen, ownPrimary}

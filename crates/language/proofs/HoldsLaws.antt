@@ -12,7 +12,8 @@ use Rattle.text.specs.Place.{checkOf}
 use Rattle.text.specs.declared.place.Checked.{Checked}
 use Rattle.text.specs.declared.place.Checked.the-variants.{WellFormed, IllFormed}
 use Rattle.tokens.specs.Result.{Res, ok, no}
-use Rattle.tokens.specs.Lex.{Lexing, lexText, mostBytes, leastWords}
+use Rattle.tokens.specs.Lexing.{Lexing, mostBytes, leastWords}
+use Rattle.tokens.specs.Lex.{lexText}
 use Rattle.tokens.specs.Ended.{recordWords}
 use Rattle.tokens.specs.Layout.{Laid, end, refusal, next}
 use Rattle.tokens.specs.Buffer.{Holds, isAskedFirst, frontOf}

@@ -23,7 +23,8 @@ use Rattle.text.specs.Split.{split}
 use Rattle.text.specs.Find.{firstAt}
 use Rattle.tokens.specs.Cursor.{bytesOf, tokens, isWord, isKind, takeKind, takeWord, takeIn, toTaken, accepted}
 use Rattle.tokens.specs.Duration.{unitOf, boundedMs, wholeMs, amount}
-use Rattle.tokens.specs.Lex.{recordOf, lexFrom, lexText, answerFrom, writtenFrom, lexAnswer, lexWords, leastWords}
+use Rattle.tokens.specs.Lexing.{recordOf, leastWords}
+use Rattle.tokens.specs.Lex.{lexFrom, lexText, answerFrom, writtenFrom, lexAnswer, lexWords}
 use Rattle.tokens.specs.Ended.{recordWords, tokenLine, tokenColumn}
 use Rattle.tokens.specs.Record.{capacity, wordsOf, written, wordAt, kindAt, numberAt, startAt, lengthAt, lineAt, columnAt, bytesAt}
 use Rattle.tokens.specs.Scan.{isPlain, passed, triviaMode, trivia, quoted, withDigit, digits}

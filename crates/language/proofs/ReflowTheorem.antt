@@ -14,7 +14,8 @@ use Rattle.tokens.specs.Kind.{STRING}
 use Rattle.tokens.specs.Record.{capacity, wordAt, kindAt, numberAt, bytesAt}
 use Rattle.tokens.specs.Result.{Res, ok, no}
 use Rattle.tokens.specs.Cursor.{Tok, bytesOf, tokens, isWord}
-use Rattle.tokens.specs.Lex.{lexText, mostBytes, leastWords}
+use Rattle.tokens.specs.Lexing.{mostBytes, leastWords}
+use Rattle.tokens.specs.Lex.{lexText}
 use Rattle.tokens.specs.Ended.{recordWords}
 use Rattle.tokens.proofs.BufferLaws.{records-count}
 use Rattle.sheet.specs.Sheet.{Sheet, well-formed, bad-line, sheetCheck}

@@ -1,5 +1,5 @@
 -- The third demand of document 01 (specs/Demand.antt), of the definition of the whole call (specs/Read.antt).
-use Prim.Native.Nat.{ℕ, _≤_}
+use Prim.Native.Nat.{ℕ, _+_, _≤_}
 use native.Mathlib.Omega.{arith}
 use mathlib.Core.Path.{_≡_, refl, sym, ap, _∙_, subst}
 use mathlib.Core.List.{List}
@@ -12,8 +12,10 @@ use Rattle.text.specs.declared.place.Checked.the-variants.{WellFormed}
 use Rattle.tokens.specs.Result.{Res, ok, no}
 use Rattle.tokens.specs.Cursor.{tokens}
 use Rattle.tokens.specs.Record.{capacity}
-use Rattle.tokens.specs.Lex.{Lexing, lexText, mostTokens, mostBytes, leastWords}
+use Rattle.tokens.specs.Lexing.{Lexing, mostTokens, mostBytes, leastWords}
+use Rattle.tokens.specs.Lex.{lexFrom, lexText}
 use Rattle.tokens.specs.Ended.{Ended, recordWords}
+use Rattle.tokens.proofs.RulesLaws.{rules-only}
 use Rattle.tokens.proofs.DurationLaws.{durations}
 use Rattle.sheet.specs.View.{View, seen}
 use Rattle.sheet.specs.declared.Call.{Call}
@@ -51,10 +53,19 @@ past : (text words : List ℕ) → End (tokens text words) (capacity words)
 past text words = no-token text words
 
 -- the tokens that a text gives, if they are few enough, are those that the call lexes
+given-from : {text : List ℕ} {l : Lexing} {count : ℕ} (g : Gives text l count) (n : ℕ) → count ≤ n → lexFrom n text start ≡ l
+given-from {text} {count = count} g n few =
+    let e = rules-only (g .octets) (g .lexed) in
+    same-lexing (g .most) n text start (subst (λ (x : Lexing). Ended x count) (sym e) (g .finished)) few ∙ e
+
 given : {text : List ℕ} {l : Lexing} {count : ℕ} → Gives text l count → count ≤ mostTokens → lexText text ≡ l
 unfolding lexText
-given {text} {count = count} g few =
-    same-lexing (g .most) mostTokens text start (subst (λ (x : Lexing). Ended x count) (sym (g .lexed)) (g .finished)) few ∙ g .lexed
+given g few = given-from g mostTokens few
+
+-- and a text gives no others
+gives-one : {text : List ℕ} {l m : Lexing} {count size : ℕ} → Gives text l count → Gives text m size → l ≡ m
+gives-one {count = count} {size = size} g h =
+    sym (given-from g (count + size) (omega arith)) ∙ given-from h (count + size) (omega arith)
 
 pub few : (text : List ℕ) {count : ℕ} → Ended (lexText text) count → count ≤ mostTokens
 unfolding lexText
@@ -183,5 +194,8 @@ exact call in-range text sheet lent words =
       sound = sound call in-range text sheet lent words;
       complete = complete call text sheet lent words;
       one = λ xs us ys vs h g. one-reading-only text (recordWords (lexText text)) (seen call sheet) lent (as-lexed h) (as-lexed g);
-      durations = λ e. durations text (sound call in-range text sheet lent words e .reads .gives .short);
+      durations =
+          λ e l count g.
+          let r = sound call in-range text sheet lent words e .reads in
+          rw (gives-one g (r .gives), ← (given (r .gives) (r .few))) (durations text (g .short));
     }

@@ -6,16 +6,16 @@
 -- call (Read.antt), and `read` promises it of the code.
 use Prim.Native.Nat.{ℕ, _≤_}
 use mathlib.Core.Path.{_≡_}
-use mathlib.Core.List.{List}
+use mathlib.Core.List.{List, []}
 use mathlib.Core.Bool.{true}
 use lib.ListN.{length}
 use Rattle.text.specs.Rfc3629.{Utf8-octets}
-use Rattle.text.specs.Place.{start}
 use Rattle.tokens.specs.Cursor.{tokens}
 use Rattle.tokens.specs.Kind.{DURATION}
 use Rattle.tokens.specs.Record.{kindAt, numberAt, bytesAt}
 use Rattle.tokens.specs.Layout.{Duration}
-use Rattle.tokens.specs.Lex.{Lexing, lexFrom, lexText, mostTokens, mostBytes, leastWords}
+use Rattle.tokens.specs.Lexing.{Lexing, mostTokens, mostBytes, leastWords}
+use Rattle.tokens.specs.Rules.{Lexes}
 use Rattle.tokens.specs.Ended.{Ended, recordWords}
 use Rattle.sheet.specs.Sheet.{Sheet, well-formed, sheetCheck}
 use Rattle.sheet.specs.View.{View, seen, ownPrimary}
@@ -38,9 +38,9 @@ pub record Gives (text : List ℕ) (l : Lexing) (count : ℕ) : Type 0 where
   -- 4: its bytes are those of some characters
   pub characters : List ℕ
   pub octets : Utf8-octets text characters
-  -- 10 to 18: with some number of tokens allowed, no refusal comes before the end
+  -- 10 to 18: by the rules (tokens/specs/Rules.antt), with some number of tokens allowed, no refusal comes before the end
   pub most : ℕ
-  pub lexed : lexFrom most text start ≡ l
+  pub lexed : Lexes most [] characters l
   pub finished : Ended l count
 
 -- "A reading of a text's tokens with a sheet is a list of triggers and one of conditions": which ones the tokens have, the grammar says
@@ -82,4 +82,4 @@ pub record Exact (call : Call) (text sheet lent : List ℕ) (size : ℕ) (answer
   pub one : (xs us : List Trigger) (ys vs : List Condition) → Has-reading call text sheet lent size xs ys → Has-reading call text sheet lent size us vs →
       (xs ≡ us) × (ys ≡ vs)
   -- the numbers that stand for durations in an accepted text's tokens, and so in its lists
-  pub durations : answer .number ≡ 0 → Durations text (recordWords (lexText text))
+  pub durations : answer .number ≡ 0 → (l : Lexing) (count : ℕ) → Gives text l count → Durations text (recordWords l)

@@ -12,7 +12,8 @@ use Rattle.text.specs.declared.place.Checked.the-variants.{WellFormed, IllForme
 use Rattle.tokens.specs.Result.{Res, ok, no}
 use Rattle.tokens.specs.Record.{capacity}
 use Rattle.tokens.specs.Cursor.{tokens}
-use Rattle.tokens.specs.Lex.{Lexing, ended, refused, token, lexText, writtenFrom, mostBytes, leastWords}
+use Rattle.tokens.specs.Lexing.{Lexing, ended, refused, token, mostBytes, leastWords}
+use Rattle.tokens.specs.Lex.{lexText, writtenFrom}
 use Rattle.tokens.specs.Ended.{recordWords, tokenLine, tokenColumn}
 use Rattle.sheet.specs.Sheet.{Sheet, well-formed, bad-line, sheetCheck}
 use Rattle.sheet.specs.View.{View, seen, ownPrimary}

@@ -17,7 +17,8 @@ use Rattle.text.specs.declared.place.Checked.{Checked}
 use Rattle.text.specs.declared.place.Checked.the-variants.{WellFormed, IllFormed}
 use Rattle.tokens.specs.Result.{Res, ok, no}
 use Rattle.tokens.specs.Record.{recordSize, capacity, lineAt, columnAt}
-use Rattle.tokens.specs.Lex.{Lexing, ended, refused, token, lexText, answerFrom, writtenFrom, answerBy, wordsBy, lexAnswer, lexWords, mostTokens, mostBytes, leastWords}
+use Rattle.tokens.specs.Lexing.{Lexing, ended, refused, token, mostTokens, mostBytes, leastWords}
+use Rattle.tokens.specs.Lex.{lexText, answerFrom, writtenFrom, answerBy, wordsBy, lexAnswer, lexWords}
 use Rattle.tokens.specs.declared.cursor.Refusal.{Refusal}
 use Rattle.tokens.specs.declared.lexer.Lexed.{Lexed}
 use Rattle.tokens.specs.declared.lexer.Lexed.the-variants.{Tokens, Refused}

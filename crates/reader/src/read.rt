@@ -17,7 +17,7 @@ ghost use mathlib.Core.Bool.{true};
 ghost use Prim.Native.Nat.{_≤_};
 ghost use lib.ListN.{length};
 ghost use Rattle.text.specs.Place.{checkOf};
-ghost use Rattle.tokens.specs.Lex.{mostBytes, leastWords};
+ghost use Rattle.tokens.specs.Lexing.{mostBytes, leastWords};
 ghost use Rattle.tokens.specs.Buffer.{Holds, frontOf};
 ghost use Rattle.sheet.specs.Sheet.{sheetCheck};
 ghost use Rattle.sheet.specs.View.{viewOf, seen, ownPrimary};

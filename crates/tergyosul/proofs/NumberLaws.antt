@@ -14,7 +14,8 @@ use Rattle.text.specs.Place.{checkOf}
 use Rattle.text.specs.declared.place.Checked.{Checked}
 use Rattle.text.specs.declared.place.Checked.the-variants.{WellFormed, IllFormed}
 use Rattle.tokens.specs.Result.{Res, ok, no}
-use Rattle.tokens.specs.Lex.{Lexing, lexText, mostBytes, leastWords}
+use Rattle.tokens.specs.Lexing.{Lexing, mostBytes, leastWords}
+use Rattle.tokens.specs.Lex.{lexText}
 use Rattle.tokens.specs.Layout.{Laid, end, refusal, next, Lexical}
 use Rattle.tokens.proofs.LayoutLaws.{laid}
 use Rattle.sheet.specs.Sheet.{Sheet, well-formed, bad-line, sheetCheck}

@@ -189,6 +189,12 @@ same-row r t (more {u} {v} a l) (more {u = w} {v = x} b m) e h k =
     let i = same-row r t l m (append-cancel-left u (v ++ r) (x ++ t) (f ∙ rw (q .0))) h k in
     ((cc), (cc))
 
+-- the characters of well-formed octets, by the rules, are those that are read
+pub octets-codes : {s cs : List ℕ} → Utf8-octets s cs → codes (chars s 0) ≡ cs
+octets-codes {s} h =
+    let r = row-from s (suc (length s)) 0 (omega arith) in
+    sym (same-row [] (r .starts .rest) h (r .row) (append-nil s ∙ r .starts .split) nothing-left (r .stuck) .1)
+
 -- no text is a row of characters, and also one with octets behind it where no character begins
 never-both : {s u cs ds : List ℕ} → Utf8-octets s cs → Utf8-octets u ds → (b : Starts s u) → 0 < length (b .rest) →
     Starts-none (b .rest) → ⊥

@@ -17,7 +17,8 @@ use Rattle.text.specs.declared.place.Step.the-variants.{Next, Stop}
 use Rattle.text.proofs.Tests.{picked}
 use Rattle.tokens.specs.Record.{recordSize, capacity, placeUnit, wordsOf, written, wordAt, kindAt, lineAt, columnAt}
 use Rattle.tokens.specs.Cursor.{tokens}
-use Rattle.tokens.specs.Lex.{recordOf, Lexing, ended, refused, token, lexText, answerFrom, writtenFrom, lexeme, lexAt, lexNoMore, behind as past-trivia, lexFrom}
+use Rattle.tokens.specs.Lexing.{recordOf, Lexing, ended, refused, token}
+use Rattle.tokens.specs.Lex.{lexText, answerFrom, writtenFrom, lexeme, lexAt, lexNoMore, behind as past-trivia, lexFrom}
 use Rattle.tokens.specs.Layout.{Laid, Lexical, no-token, unterminated, too-large, no-time, places, no-unit, long, fine, too-many}
 use Rattle.tokens.specs.declared.record.Record.{Record}
 use Rattle.tokens.specs.declared.lexer.Lexed.{Lexed}

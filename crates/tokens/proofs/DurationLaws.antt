@@ -8,9 +8,11 @@ use Rattle.text.specs.Part.{partOf}
 use Rattle.text.specs.Place.{start, walked}
 use Rattle.tokens.specs.Kind.{DURATION}
 use Rattle.tokens.specs.Record.{kindAt, numberAt, bytesAt}
-use Rattle.tokens.specs.Lex.{lexText, mostBytes}
+use Rattle.tokens.specs.Lexing.{mostBytes}
+use Rattle.tokens.specs.Lex.{lexText}
 use Rattle.tokens.specs.Ended.{recordWords}
-use Rattle.tokens.specs.Layout.{Duration, firstByte, endByte}
+use Rattle.tokens.specs.Rules.{firstByte, endByte}
+use Rattle.tokens.specs.Layout.{Duration}
 use Rattle.tokens.specs.Placed.{recordAt, Record-exact}
 use Rattle.tokens.specs.declared.record.Record.{Record}
 use Rattle.tokens.proofs.LayoutReads.{ascii-octets}

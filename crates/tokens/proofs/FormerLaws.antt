@@ -10,7 +10,8 @@ use lib.Dec.{ltb}
 use borrow.Author.Tests.{lt-ltb, le-ltb}
 use Rattle.text.specs.Choice.{pick}
 use Rattle.tokens.specs.Record.{capacity, wordsOf}
-use Rattle.tokens.specs.Lex.{Lexing, ended, refused, token, lexText, mostTokens, mostBytes, leastWords}
+use Rattle.tokens.specs.Lexing.{Lexing, ended, refused, token, mostTokens, mostBytes, leastWords}
+use Rattle.tokens.specs.Lex.{lexText}
 use Rattle.tokens.specs.Ended.{recordWords}
 use Rattle.tokens.specs.Placed.{recordAt, zeros, tokenRecord}
 use Rattle.tokens.specs.declared.record.Record.{Record}

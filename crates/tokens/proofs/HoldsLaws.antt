@@ -19,7 +19,8 @@ use Rattle.text.specs.declared.place.Step.{Step}
 use Rattle.text.specs.declared.place.Step.the-variants.{Next, Stop}
 use Rattle.tokens.specs.Record.{recordSize, capacity, wordsOf, written}
 use Rattle.tokens.specs.Token.{look, tokenAt}
-use Rattle.tokens.specs.Lex.{Lexing, ended, refused, token, lexeme, lexAt, lexNoMore, behind, lexFrom, lexText, answerFrom, writtenFrom, mostTokens, mostBytes, leastWords, answerBy, wordsBy, lexAnswer, lexWords}
+use Rattle.tokens.specs.Lexing.{Lexing, ended, refused, token, mostTokens, mostBytes, leastWords}
+use Rattle.tokens.specs.Lex.{lexeme, lexAt, lexNoMore, behind, lexFrom, lexText, answerFrom, writtenFrom, answerBy, wordsBy, lexAnswer, lexWords}
 use Rattle.tokens.specs.Layout.{Laid, Lexical, no-token, unterminated, too-large, no-time, places, no-unit, long, fine, too-many}
 use Rattle.tokens.specs.Ended.{recordWords}
 use Rattle.tokens.specs.Buffer.{Holds, lexNumber, isAskedFirst, frontOf}

@@ -1,104 +1,136 @@
--- The tokens of a text lie in it as specs/Layout.antt says, their bytes are those of their characters, and lines and columns are counts.
+-- The tokens of a text lie in it as specs/Layout.antt says, which follows from the rules of specs/Rules.antt; their bytes are those of their
+-- characters, and lines and columns are counts.
 use mathlib.Core.Path.{_≡_, _∙_, refl, ap, sym}
-use Prim.Native.Nat.{ℕ, zero, suc}
+use Prim.Native.Nat.{ℕ, _≤_}
+use native.Mathlib.Omega.{arith}
 use mathlib.Core.List.{List, [], _∷_, _++_, append-assoc, append-nil}
 use Rattle.text.specs.Rfc3629.{Utf8-octets}
 use Rattle.text.specs.Utf8.{Character, codes, chars}
 use Rattle.text.specs.Part.{partOf}
 use Rattle.text.specs.Place.{start, walked, lineAfter, columnAfter}
-use Rattle.text.specs.declared.place.Place.{Place}
-use Rattle.text.specs.declared.place.Step.{Step}
-use Rattle.text.specs.declared.place.Step.the-variants.{Next, Stop}
-use Rattle.text.proofs.StepLaws.{Stepped, Stopped}
+use Rattle.text.specs.Ascii.{isDigit}
 use Rattle.text.proofs.PlaceRules.{line-walked, column-walked}
-use Rattle.tokens.specs.Token.{look, tokenAt}
-use Rattle.tokens.specs.Lex.{Lexing, ended, refused, token, recordOf, lexeme, lexAt, lexNoMore, behind, lexFrom, lexText, mostTokens}
-use Rattle.tokens.specs.Layout.{Spelled, Lexical, Laid}
-use Rattle.tokens.specs.declared.lexer.Lexeme.{Lexeme}
-use Rattle.tokens.specs.declared.lexer.Lexeme.the-variants.{Token}
-use Rattle.tokens.proofs.LayoutReads.{Looked, looked, Stretch, written, walked-on, row, octets}
-use Rattle.tokens.proofs.LayoutScan.{Passes, Gap, trailing, before-character, gap-passed}
-use Rattle.tokens.proofs.LayoutToken.{Spans, Fits, token-fits}
+use Rattle.tokens.specs.Lexing.{Lexing, refused, mostTokens}
+use Rattle.tokens.specs.Lex.{lexText}
+use Rattle.tokens.specs.Rules.{Trivia, Begins, begins, All, Run, run, Shape, Shaped, Digit-run, mostRun, worth, refuse, Judged, value, valueFrom, placeAfter, Lexes}
+use Rattle.tokens.specs.Layout.{Digits, Duration, Spelled, Lexical, Laid}
+use Rattle.tokens.proofs.LayoutReads.{walked-on, row, octets}
+use Rattle.tokens.proofs.RulesScan.{first-same, rest-same, never-none}
+use Rattle.tokens.proofs.RulesLaws.{place-read, rules-read}
 
--- p is the place behind the characters `before` of s
-record Reached (s : List ℕ) (before : List Character) (p : Place) : Type 0 where
-  is : p ≡ walked start before
-  rest : chars s 0 ≡ before ++ chars s (p .at)
+-- ---- what a shape with a verdict says of its characters
 
--- the place behind a stretch from there is reached too
-further : {s : List ℕ} {before u : List Character} {p q : Place} → Reached s before p → Stretch s p q u → Reached s (before ++ u) q
-further {s} {before} {u} {p} {q} r t =
+digits-of : {ds : List ℕ} → Run isDigit ds → value ds ≤ mostRun → Digits ds
+digits-of (run h a) k = record { all = All.more h a; some = omega arith; small = k }
+
+spelled : {u rest : List ℕ} {shape : Shape} {kind number : ℕ} → Shaped u rest shape → Judged shape (worth kind number) → Spelled u kind number
+unfolding value valueFrom
+spelled (Shaped.word h a k) Judged.word = Spelled.word h a
+spelled (Shaped.string a b) Judged.string = Spelled.string a b
+spelled (Shaped.sign h m) Judged.sign = Spelled.symbol h
+spelled (Shaped.integer {ds} d e) (Judged.integer s) = Spelled.integer (digits-of d (s .runs ds Digit-run.integer))
+spelled (Shaped.time d a k) (Judged.time t) =
+    Spelled.time (digits-of d (omega (arith, t .hour))) (t .hours) (t .hour)
+    (record { all = a; some = omega (arith, t .minutes); small = omega (arith, t .minute) }) (t .minutes) (t .minute)
+spelled (Shaped.decimal {ws} {fs} d g k a) (Judged.decimal s t m) =
+    Spelled.decimal (digits-of d (s .runs ws Digit-run.decimal-whole)) (digits-of g (s .runs fs Digit-run.decimal-fraction)) (t .places) (t .proportion) m
+spelled (Shaped.whole-amount {ws} d g k) (Judged.duration s u a m) =
+    Spelled.duration (Duration.whole (digits-of d (s .runs ws Digit-run.amount-whole)) u a m)
+spelled (Shaped.decimal-amount {ws} {fs} d g b k) (Judged.duration s u a m) =
+    Spelled.duration
+    (Duration.decimal (digits-of d (s .runs ws Digit-run.amount-whole)) (digits-of g (s .runs fs Digit-run.amount-fraction)) u a m)
+
+lexical : {shape : Shape} {number : ℕ} → Judged shape (refuse number) → Lexical number
+lexical Judged.nothing = Lexical.no-token
+lexical Judged.unclosed = Lexical.unterminated
+lexical (Judged.large r m) = Lexical.too-large
+lexical (Judged.no-time s n) = Lexical.no-time
+lexical (Judged.places s m) = Lexical.places
+lexical (Judged.high s t m) = Lexical.too-large
+lexical (Judged.no-unit s n) = Lexical.no-unit
+lexical (Judged.fine s u n) = Lexical.fine
+lexical (Judged.long s u a m) = Lexical.long
+
+-- ---- rows of characters, by their code points
+
+codes-on : (a b : List Character) → codes (a ++ b) ≡ codes a ++ codes b
+codes-on [] b = refl
+codes-on (ch ∷ a) b = ap (λ (l : List ℕ). ch .code ∷ l) (codes-on a b)
+
+codes-both : (a b : List Character) {x y : List ℕ} → codes a ≡ x → codes b ≡ y → codes (a ++ b) ≡ x ++ y
+codes-both a b f g = codes-on a b ∙ rw (f, g)
+
+-- characters are parted where their code points are
+record Parted (l : List Character) (a b : List ℕ) : Type 0 where
+  front : List Character
+  back : List Character
+  is : l ≡ front ++ back
+  front-is : codes front ≡ a
+  back-is : codes back ≡ b
+
+parted : (l : List Character) (a b : List ℕ) → codes l ≡ a ++ b → Parted l a b
+parted l [] b e = record { front = []; back = l; is = refl; front-is = refl; back-is = e }
+parted [] (c ∷ a) b e = never-none e
+parted (ch ∷ l) (c ∷ a) b e =
+    let x = parted l a b (rest-same e) in
     record {
-      is = t .ends ∙ ap (λ (k : Place). walked k u) (r .is) ∙ sym (walked-on start before u);
-      rest = r .rest ∙ ap (λ (l : List Character). before ++ l) (t .split) ∙ sym (append-assoc before u (chars s (q .at)));
+      front = ch ∷ x .front;
+      back = x .back;
+      is = ap (λ (r : List Character). ch ∷ r) (x .is);
+      front-is = ap (λ (r : List ℕ). ch .code ∷ r) (x .front-is) ∙ ap (λ (k : ℕ). k ∷ a) (first-same e);
+      back-is = x .back-is;
     }
 
--- how it goes on at q, with white space and comments from p to there: the end, a refusal or a token
-module _ {s : List ℕ} {before : List Character} {p q : Place} (r : Reached s before p) (g : Passes (Gap s q) s p q) where
-  gap : List Character
-  gap = written (g .reads) .text
+-- the place behind the characters a and b of s
+place-of : (s : List ℕ) (a b r : List Character) {x y : List ℕ} → chars s 0 ≡ a ++ (b ++ r) → codes a ≡ x → codes b ≡ y →
+    placeAfter (x ++ y) ≡ walked start (a ++ b)
+place-of s a b r e f g =
+    let h = place-read (row s start (a ++ b) r (e ∙ sym (append-assoc a b r)) .reads) in
+    sym (h ∙ ap placeAfter (codes-both a b f g))
 
-  gap-is : Gap s q (codes gap)
-  unfolding gap
-  gap-is = rw (written (g .reads) .is) (g .are)
+-- ---- the layout of a lexing
 
-  gap-reached : Reached s (before ++ gap) q
-  unfolding gap
-  gap-reached = further r (written (g .reads) .stretch)
+-- a refusal stands at a character
+laid-refusal : {s : List ℕ} {before : List Character} {number : ℕ} (gap back : List Character) {rest : List ℕ} → Trivia (codes gap) → Begins rest → codes back ≡ rest →
+    chars s 0 ≡ before ++ (gap ++ back) → Lexical number → Laid s before (refused number (walked start (before ++ gap)))
+laid-refusal gap [] t (begins h k) e f l = never-none e
+laid-refusal gap (ch ∷ back) t b e f l = Laid.refusal gap ch back t f l
 
-  laid-end : Stopped s q → Laid s before (ended q)
-  laid-end h =
-      let i = gap-reached in
-      let e : chars s 0 ≡ before ++ gap = i .rest ∙ rw (h .rest, append-nil) in
-      rw (i .is) (Laid.end gap (trailing gap-is) e)
-
-  laid-refusal : {c number : ℕ} {n : Place} → Stepped s q c n → Lexical number → Laid s before (refused number q)
-  laid-refusal {c} {number} {n} h l =
-      let i = gap-reached in
-      let ch : Character = record { code = c; next = n .at } in
-      let e : chars s 0 ≡ before ++ (gap ++ (ch ∷ chars s (n .at))) = i .rest ∙ rw (h .rest, append-assoc) in
-      rw (i .is) (Laid.refusal gap ch (chars s (n .at)) (before-character h gap-is) e l)
-
-  laid-token : {c kind number a b : ℕ} {n e : Place} (l : Lexing) → Stepped s q c n → Spans s q kind number a b e →
-      ((done : List Character) → Reached s done e → Laid s done l) → Laid s before (token (recordOf kind number a b q) l)
-  laid-token {kind} {number} {e} l k t next =
-      let i = gap-reached in
-      let w = written (t .reads) in
-      let u = w .text in
-      let j : Reached s (before ++ (gap ++ u)) e = rw append-assoc at (further i (w .stretch)) in
-      let d : chars s 0 ≡ before ++ (gap ++ (u ++ chars s (e .at))) = j .rest ∙ simp append-assoc in
-      let h : Spelled (codes u) kind number = rw (w .is) (t .spelled) in
-      rw (t .starts, t .ends, i .is, j .is) (Laid.next gap u (chars s (e .at)) (before-character k gap-is) h d (next (before ++ (gap ++ u)) j))
-
-  laid-lexeme : (x : Lexeme) → {c : ℕ} {n : Place} → Stepped s q c n → Fits s q x → (rest : Place → Lexing) →
-      ((done : List Character) (e : Place) → Reached s done e → Laid s done (rest e)) → Laid s before (lexeme q x rest)
-  unfolding Fits
-  laid-lexeme (Token kind number a b e) h t rest next = laid-token (rest e) h t (λ done. next done e)
-  laid-lexeme (Lexeme.Refused number) h t rest next = laid-refusal h t
-
-  laid-at : (x : Step) → Looked s q x → (rest : Place → Lexing) →
-      ((done : List Character) (e : Place) → Reached s done e → Laid s done (rest e)) → Laid s before (lexAt s q x rest)
-  unfolding Looked
-  laid-at (Next c n) h rest next = laid-lexeme (tokenAt s q c n) h (token-fits h) rest next
-  laid-at Stop h rest next = laid-end h
-
-  laid-no-more : (x : Step) → Looked s q x → Laid s before (lexNoMore q x)
-  unfolding Looked
-  laid-no-more (Next c n) h = laid-refusal h Lexical.too-many
-  laid-no-more Stop h = laid-end h
-
--- from a place that is reached, with n tokens that may still come
-laid-from : (n : ℕ) (s : List ℕ) (before : List Character) (p : Place) → Reached s before p → Laid s before (lexFrom n s p)
-unfolding lexFrom
-laid-from zero s before p r =
-    laid-no-more r (gap-passed s p) (look s (behind s p)) (looked s (behind s p))
-laid-from (suc n) s before p r =
-    laid-at r (gap-passed s p) (look s (behind s p)) (looked s (behind s p)) (lexFrom n s) (laid-from n s)
+laid-of : {n : ℕ} {x y : List ℕ} {l : Lexing} → Lexes n x y l → (s : List ℕ) (before after : List Character) → chars s 0 ≡ before ++ after →
+    codes before ≡ x → codes after ≡ y → Laid s before l
+laid-of (Lexes.end t) s before after e f g =
+    let k : chars s 0 ≡ before ++ (after ++ []) = e ∙ rw append-nil in
+    rw (place-of s before after [] k f g) (Laid.end after (rw g t) e)
+laid-of (Lexes.too-many {gap} {rest} t b) s before after e f g =
+    let x = parted after gap rest g in
+    let k : chars s 0 ≡ before ++ (x .front ++ x .back) = e ∙ ap (λ (l : List Character). before ++ l) (x .is) in
+    rw (place-of s before (x .front) (x .back) k f (x .front-is))
+    (laid-refusal (x .front) (x .back) (rw (x .front-is) t) b (x .back-is) k Lexical.too-many)
+laid-of (Lexes.refusal {gap} {u} {rest} t b h j) s before after e f g =
+    let x = parted after gap (u ++ rest) g in
+    let k : chars s 0 ≡ before ++ (x .front ++ x .back) = e ∙ ap (λ (l : List Character). before ++ l) (x .is) in
+    rw (place-of s before (x .front) (x .back) k f (x .front-is))
+    (laid-refusal (x .front) (x .back) (rw (x .front-is) t) b (x .back-is) k (lexical j))
+laid-of (Lexes.next {kind} {number} {gap} {u} {rest} t b h j more) s before after e f g =
+    let x = parted after gap (u ++ rest) g in
+    let z = parted (x .back) u rest (x .back-is) in
+    let a = x .front in
+    let c = z .front in
+    let d = z .back in
+    let k : chars s 0 ≡ before ++ (a ++ (c ++ d)) =
+    e ∙ ap (λ (l : List Character). before ++ l) (x .is) ∙ ap (λ (l : List Character). before ++ (a ++ l)) (z .is)
+    in
+    let m : chars s 0 ≡ before ++ ((a ++ c) ++ d) = k ∙ rw append-assoc in
+    let i = codes-both a c (x .front-is) (z .front-is) in
+    let w : Spelled (codes c) kind number = rw (z .front-is) (spelled h j) in
+    rw (place-of s before a (c ++ d) k f (x .front-is), place-of s before (a ++ c) d m f i)
+    (Laid.next a c d (rw (x .front-is) t) w k
+    (laid-of more s (before ++ (a ++ c)) d (m ∙ sym (append-assoc before (a ++ c) d)) (codes-both before (a ++ c) f i) (z .back-is)))
 
 -- the tokens that the definition gives lie in the text as Layout.antt says
 pub laid : (s : List ℕ) → Laid s [] (lexText s)
-unfolding lexText walked
-laid s = laid-from mostTokens s [] start (record { is = refl; rest = refl })
+unfolding lexText
+laid s = laid-of (rules-read mostTokens s) s [] (chars s 0) refl refl refl
 
 -- the bytes between two places that are reached are those of the characters between them
 pub octets-between : (s : List ℕ) (a u r : List Character) → chars s 0 ≡ a ++ (u ++ r) →

@@ -21,7 +21,7 @@ use Rattle.text.proofs.Utf8Rules.{stands}
 use Rattle.text.proofs.CharLaws.{chars-char, chars-bad, chars-end}
 use Rattle.text.proofs.PartLaws.{part-none}
 use Rattle.text.proofs.StepLaws.{Stepped, Stopped, step-next, step-stop}
-use Rattle.tokens.specs.Layout.{All}
+use Rattle.tokens.specs.Rules.{All}
 
 -- from p to q one reads characters with these code points
 pub data Reads (s : List ℕ) : Place → Place → List ℕ → Type 0 where
@@ -120,11 +120,11 @@ row s p (ch ∷ u) r e =
 -- ---- the bytes that they take
 
 -- these octets of s are the character c and end at n
-record Bytes (s : List ℕ) (at c n : ℕ) : Type 0 where
-  octets : List ℕ
-  is : Utf8-char octets c
-  begin : Starts (drop at s) octets
-  ends : n ≡ at + length octets
+pub record Bytes (s : List ℕ) (at c n : ℕ) : Type 0 where
+  pub octets : List ℕ
+  pub is : Utf8-char octets c
+  pub begin : Starts (drop at s) octets
+  pub ends : n ≡ at + length octets
 
 same-first : {a b : Character} {l r : List Character} → a ∷ l ≡ b ∷ r → a ≡ b
 same-first e = cc
@@ -143,7 +143,7 @@ bytes-by {s} {p} {n} {c} t d (char {u} {c = b} h k) =
 bytes-by {s} {p} t d (bad h k) = let e = chars-bad s (p .at) d in let z : _≡_ {A = ℕ} 0 1 = cc in absurd (omega arith)
 bytes-by {s} {p} t d (end h) = let e = chars-end s (p .at) d in let z : _≡_ {A = ℕ} 0 1 = cc in absurd (omega arith)
 
-bytes : {s : List ℕ} {p n : Place} {c : ℕ} → Stepped s p c n → Bytes s (p .at) c (n .at)
+pub bytes : {s : List ℕ} {p n : Place} {c : ℕ} → Stepped s p c n → Bytes s (p .at) c (n .at)
 bytes {s} {p} t = bytes-by t refl (stands s (p .at))
 
 -- a character below 128 is one byte, which is its code point

@@ -8,9 +8,12 @@ pub mod PowerLaws
 pub mod AmountLaws
 pub mod RecordLaws
 pub mod LexLaws
+pub mod RulesFound
 pub mod LayoutReads
 pub mod LayoutScan
-pub mod LayoutToken
+pub mod RulesScan
+pub mod RulesToken
+pub mod RulesLaws
 pub mod LayoutLaws
 pub mod SpelledLaws
 pub mod BufferLaws

@@ -12,7 +12,8 @@ use Rattle.text.specs.Ascii.{isDigit, isAlpha, isWordStart, isWordPart}
 use Rattle.tokens.specs.Scan.{passed, triviaMode, trivia, withDigit, digits}
 use Rattle.tokens.specs.Duration.{unitOf, boundedMs, wholeMs, amount}
 use Rattle.tokens.specs.Token.{singleKind, pairKind, single, punct, timeBy, time, decimal, amountTo, durationBy, duration, fractionAt, fraction, point, numberAt, number, tokenAt}
-use Rattle.tokens.specs.Lex.{Lexing, ended, refused, token, recordOf, lexFrom, lexText}
+use Rattle.tokens.specs.Lexing.{Lexing, ended, refused, token, recordOf}
+use Rattle.tokens.specs.Lex.{lexFrom, lexText}
 
 -- what a text gives: kind and number of each token, or a refusal
 data Given : Type 0 where

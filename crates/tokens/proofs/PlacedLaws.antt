@@ -13,8 +13,10 @@ use Rattle.text.proofs.Tests.{picked}
 use Rattle.text.proofs.WithinLaws.{counted-most, counted-exact, row-fits, walked-inside, walked-within, walked-counts}
 use Rattle.tokens.specs.Kind.{STRING}
 use Rattle.tokens.specs.Record.{capacity, halfWord, wordsOf, wordAt, kindAt, numberAt, startAt, lengthAt, lineAt, columnAt}
-use Rattle.tokens.specs.Lex.{Lexing, ended, refused, token, recordOf, lexText, answerFrom, mostBytes}
-use Rattle.tokens.specs.Layout.{Spelled, Laid, firstByte, endByte}
+use Rattle.tokens.specs.Lexing.{Lexing, ended, refused, token, recordOf, mostBytes}
+use Rattle.tokens.specs.Lex.{lexText, answerFrom}
+use Rattle.tokens.specs.Rules.{firstByte, endByte}
+use Rattle.tokens.specs.Layout.{Spelled, Laid}
 use Rattle.tokens.specs.Ended.{recordWords, tokenLine, tokenColumn}
 use Rattle.tokens.specs.Placed.{Each, at-end, at-refusal, at-token, recordAt, zeros, tokenRecord, In-word, All-in-word, Record-within, End-exact, Refusal-exact, Record-exact}
 use Rattle.tokens.specs.declared.record.Record.{Record}

@@ -6,28 +6,11 @@ use native.Mathlib.Omega.{arith}
 use mathlib.Core.List.{List, _++_}
 use lib.ListN.{length}
 use Rattle.text.specs.Utf8.{isAscii}
-use Rattle.tokens.specs.Kind.{STRING, DURATION, OPEN}
-use Rattle.tokens.specs.Layout.{All, Unit-of, Duration, Symbol, Spelled}
+use Rattle.tokens.specs.Kind.{STRING, DURATION}
+use Rattle.tokens.specs.Rules.{All, Unit-of}
+use Rattle.tokens.specs.Layout.{Duration, Spelled}
 use Rattle.tokens.proofs.LayoutScan.{digit-ascii, all-of}
-
--- the kinds of symbols are those from that of `(` on
-symbol-kind : {cs : List ℕ} {kind : ℕ} → Symbol cs kind → OPEN ≤ kind
-symbol-kind Symbol.open-paren = omega arith
-symbol-kind Symbol.close-paren = omega arith
-symbol-kind Symbol.open-brace = omega arith
-symbol-kind Symbol.close-brace = omega arith
-symbol-kind Symbol.comma = omega arith
-symbol-kind Symbol.dot = omega arith
-symbol-kind Symbol.dot-dot = omega arith
-symbol-kind Symbol.assign = omega arith
-symbol-kind Symbol.equal = omega arith
-symbol-kind Symbol.unequal = omega arith
-symbol-kind Symbol.at-least = omega arith
-symbol-kind Symbol.at-most = omega arith
-symbol-kind Symbol.greater = omega arith
-symbol-kind Symbol.less = omega arith
-symbol-kind Symbol.plus = omega arith
-symbol-kind Symbol.minus = omega arith
+use Rattle.tokens.proofs.RulesFound.{symbol-kind}
 
 -- no kind is 0
 pub kind-some : {cs : List ℕ} {kind number : ℕ} → Spelled cs kind number → 1 ≤ kind

@@ -3,7 +3,7 @@ use Prim.Native.Nat.{ℕ, zero, suc}
 use mathlib.Core.List.{List, [], _++_}
 use Rattle.text.specs.declared.place.Place.{Place}
 use Rattle.tokens.specs.Record.{wordsOf}
-use Rattle.tokens.specs.Lex.{Lexing, ended, refused, token}
+use Rattle.tokens.specs.Lexing.{Lexing, ended, refused, token}
 use Rattle.tokens.specs.declared.record.Record.{Record}
 
 -- count tokens, and then the end of the text

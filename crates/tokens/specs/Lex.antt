@@ -1,42 +1,24 @@
 -- What tokens a text gives, and how that ends (document 01, questions 1, 2, 4 and 10 to 19).
-use Prim.Native.Nat.{ℕ, zero, suc, _+_, _-_, _*_}
+use Prim.Native.Nat.{ℕ, zero, suc, _+_}
 use mathlib.Core.List.{List, [], _∷_}
 use lib.ListN.{length}
 use lib.Dec.{ltb}
 use Rattle.text.specs.Choice.{pick}
 use Rattle.text.specs.Utf8.{chars}
-use Rattle.text.specs.Place.{counted, start, checkOf}
+use Rattle.text.specs.Place.{start, checkOf}
 use Rattle.text.specs.declared.place.Place.{Place}
 use Rattle.text.specs.declared.place.Step.{Step}
 use Rattle.text.specs.declared.place.Step.the-variants.{Next, Stop}
 use Rattle.text.specs.declared.place.Checked.{Checked}
 use Rattle.text.specs.declared.place.Checked.the-variants.{WellFormed, IllFormed}
+use Rattle.tokens.specs.Lexing.{mostTokens, mostBytes, leastWords, recordOf, Lexing, ended, refused, token}
 use Rattle.tokens.specs.Scan.{trivia}
 use Rattle.tokens.specs.Token.{look, tokenAt}
-use Rattle.tokens.specs.Record.{recordSize, written}
+use Rattle.tokens.specs.Record.{written}
 use Rattle.tokens.specs.declared.lexer.Lexeme.{Lexeme}
 use Rattle.tokens.specs.declared.lexer.Lexeme.the-variants.{Token}
-use Rattle.tokens.specs.declared.record.Record.{Record}
 use Rattle.tokens.specs.declared.lexer.Lexed.{Lexed}
 use Rattle.tokens.specs.declared.lexer.Lexed.the-variants.{Tokens, Refused}
-
--- the record of a token: its bytes, and the place where it begins
-unfoldable pub recordOf : ℕ → ℕ → ℕ → ℕ → Place → Record
-recordOf kind number start end p =
-    record {
-      kind = kind;
-      number = number;
-      start = counted start;
-      length = counted (end - start);
-      line = p .line;
-      column = p .column;
-    }
-
--- the records of a text, in order, and behind them how lexing ends: at the place of the text's end, or refused at a place
-pub data Lexing : Type 0 where
-  ended : Place → Lexing
-  refused : ℕ → Place → Lexing
-  token : Record → Lexing → Lexing
 
 abbrev pub lexeme : Place → Lexeme → (Place → Lexing) → Lexing
 lexeme p (Token kind number start end next) rest = token (recordOf kind number start end p) (rest next)
@@ -60,10 +42,6 @@ unfoldable pub lexFrom : ℕ → List ℕ → Place → Lexing
 lexFrom zero s p = lexNoMore (behind s p) (look s (behind s p))
 lexFrom (suc n) s p = lexAt s (behind s p) (look s (behind s p)) (lexFrom n s)
 
--- at most 1,024 tokens
-abbrev pub mostTokens : ℕ
-mostTokens = 1024
-
 unfoldable pub lexText : List ℕ → Lexing
 lexText s = lexFrom mostTokens s start
 
@@ -78,13 +56,6 @@ unfoldable pub writtenFrom : ℕ → List ℕ → Lexing → List ℕ
 writtenFrom i words (ended p) = words
 writtenFrom i words (refused number p) = words
 writtenFrom i words (token r l) = writtenFrom (i + 1) (written words i r) l
-
--- the longest text, and the fewest words that are lent: room for the most tokens
-abbrev pub mostBytes : ℕ
-mostBytes = 16384
-
-abbrev pub leastWords : ℕ
-leastWords = mostTokens * recordSize
 
 -- "Text well-formed UTF-8 (RFC 3629)? 4": the answer and the words at exit once that is asked
 unfoldable pub answerBy : List ℕ → Checked → Lexed

@@ -4,6 +4,8 @@ pub mod Duration
 pub mod Amount
 pub mod Token
 pub mod Record
+pub mod Lexing
+pub mod Rules
 pub mod Lex
 pub mod Ended
 pub mod Result

@@ -8,8 +8,9 @@ use Rattle.text.specs.Utf8.{Character, codes, chars}
 use Rattle.text.specs.Place.{Counts, Within, start, walked}
 use Rattle.text.specs.declared.place.Place.{Place}
 use Rattle.tokens.specs.Record.{placeUnit, kindAt, numberAt, startAt, lengthAt, lineAt, columnAt}
-use Rattle.tokens.specs.Lex.{Lexing, ended, refused, token}
-use Rattle.tokens.specs.Layout.{Spelled, firstByte, endByte}
+use Rattle.tokens.specs.Lexing.{Lexing, ended, refused, token}
+use Rattle.tokens.specs.Rules.{firstByte, endByte}
+use Rattle.tokens.specs.Layout.{Spelled}
 use Rattle.tokens.specs.declared.record.Record.{Record}
 
 -- E holds of the line and column of the end, F of those of the refusal, and T of each token's record

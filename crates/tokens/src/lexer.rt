@@ -19,7 +19,8 @@ ghost use Rattle.text.specs.Place.{counted, start};
 ghost use Rattle.tokens.specs.Scan.{quoted, digits};
 ghost use Rattle.tokens.specs.Token.{look, singleKind, pairKind, single, punct, string, digitsIn, timeBy, time, decimal, durationBy, duration, fractionAt, fraction, point, numberAt, number, word, spanning, tokenAt};
 ghost use Rattle.tokens.specs.Buffer.{Holds, lexNumber, frontOf};
-ghost use Rattle.tokens.specs.Lex.{recordOf, lexFrom, lexText, answerFrom, writtenFrom, lexAnswer, lexWords};
+ghost use Rattle.tokens.specs.Lexing.{recordOf};
+ghost use Rattle.tokens.specs.Lex.{lexFrom, lexText, answerFrom, writtenFrom, lexAnswer, lexWords};
 
 // The most tokens and bytes that a text may have, and the fewest words that are lent: room for the most tokens.
 pub const MOST_TOKENS: usize = 1024;

@@ -10,7 +10,8 @@ use Rattle.text.specs.declared.place.Step.{Step}
 use Rattle.text.specs.declared.place.Step.the-variants.{Next, Stop}
 use Rattle.tokens.specs.Token.{look, tokenAt}
 use Rattle.tokens.specs.Record.{written}
-use Rattle.tokens.specs.Lex.{recordOf, Lexing, ended, refused, lexeme, lexAt, lexNoMore, behind, lexFrom, lexText, answerFrom, writtenFrom, mostTokens}
+use Rattle.tokens.specs.Lexing.{recordOf, Lexing, ended, refused, mostTokens}
+use Rattle.tokens.specs.Lex.{lexeme, lexAt, lexNoMore, behind, lexFrom, lexText, answerFrom, writtenFrom}
 use Rattle.tokens.specs.declared.record.Record.{Record}
 use Rattle.tokens.specs.declared.lexer.Lexeme.{Lexeme}
 use Rattle.tokens.specs.declared.lexer.Lexeme.the-variants.{Token}

@@ -1,5 +1,5 @@
 use borrow.Author.Needs.{needs}
-use Rattle.tokens.specs.Lex.{recordOf}
+use Rattle.tokens.specs.Lexing.{recordOf}
 use Rattle.tokens.proofs.lexer.record_of.Statement.{statement}
 use Rattle.tokens.proofs.lexer.record_of.Tie as tie
 
