@@ -9,6 +9,7 @@ pub mod ConditionComplete
 pub mod TextLaws
 pub mod RefusalLaws
 pub mod RangeLaws
+pub mod NumberLaws
 pub mod FuelLaws
 pub mod AskedLaws
 pub mod HabitLaws

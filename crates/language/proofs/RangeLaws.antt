@@ -42,6 +42,21 @@ repeated-in : {t : ℕ → Tok} {word : List ℕ} {A : Type 0} {Form : ℕ → A
 repeated-in f Repeated.end = Each.none
 repeated-in f (Repeated.more w h r) = Each.more (f _ _ _ h) (repeated-in f r)
 
+-- what holds of every trigger and of every condition that can be read holds of each in a reading
+module _
+    {t : ℕ → Tok} {view : View} {range : ℕ → Name} {P : Trigger → Type 0} {Q : Condition → Type 0}
+    (f : (i j : ℕ) (x : Trigger) → Trigger-of t view range i x j → P x) (g : (i j : ℕ) (y : Condition) → Condition-of t view range i y j → Q y)
+  where
+    when-in : {i j : ℕ} {xs : List Trigger} → When-section t view range i xs j → Each P xs
+    when-in (When-section.whens h some few) = repeated-in f h
+
+    if-in : {i j : ℕ} {ys : List Condition} → If-section t view range i ys j → Each Q ys
+    if-in If-section.no-if = Each.none
+    if-in (If-section.conditions w (Conditions-of.joined h r few)) = Each.more (g _ _ _ h) (repeated-in g r)
+
+    pub each-in : {xs : List Trigger} {ys : List Condition} → Reading-with t view range xs ys → Each P xs × Each Q ys
+    each-in (Reading-with.reading h k e) = (when-in h, if-in k)
+
 module _ {t : ℕ → Tok} {view : View} {range : ℕ → Name} (sees : View-in-range view) where
   reading-in : {i j : ℕ} {r : Reading} → Reading-of t view range i r j → Reading-in-range r
   unfolding Reading-in-range
@@ -108,15 +123,10 @@ module _ {t : ℕ → Tok} {view : View} {range : ℕ → Name} (sees : View-in-
   condition-in (Condition-of.input-light w r a p c h) = (one-instance-in sees r, value-in h)
   condition-in (Condition-of.var-compare w q c h) = operand-in h
 
-  when-in : {i j : ℕ} {xs : List Trigger} → When-section t view range i xs j → Each Trigger-in-range xs
-  when-in (When-section.whens h some few) = repeated-in (λ i j x g. trigger-in g) h
-
-  if-in : {i j : ℕ} {ys : List Condition} → If-section t view range i ys j → Each Condition-in-range ys
-  if-in If-section.no-if = Each.none
-  if-in (If-section.conditions w (Conditions-of.joined h r few)) = Each.more (condition-in h) (repeated-in (λ i j y g. condition-in g) r)
-
   all-in : {xs : List Trigger} {ys : List Condition} → Reading-with t view range xs ys → In-range xs ys
-  all-in (Reading-with.reading h g e) = record { triggers = when-in h; conditions = if-in g }
+  all-in h =
+      let each = each-in (λ i j x g. trigger-in g) (λ i j y g. condition-in g) h in
+      record { triggers = each .0; conditions = each .1 }
 
 -- with every sheet: neither a number in a rule nor a row of the sheet nor the call's primary adapter brings in a reference that is out of range
 pub ranges : {t : ℕ → Tok} (call : Call) (sheet : List ℕ) → call .primary ≤ lastAdapter → {range : ℕ → Name} {xs : List Trigger} {ys : List Condition} →

@@ -17,6 +17,7 @@ use Rattle.tokens.specs.Lex.{lexFrom, lexText}
 use Rattle.tokens.specs.Ended.{Ended, recordWords}
 use Rattle.tokens.proofs.RulesLaws.{rules-only}
 use Rattle.tokens.proofs.DurationLaws.{durations}
+use Rattle.tokens.proofs.NumberLaws.{token-numbers}
 use Rattle.sheet.specs.View.{View, seen}
 use Rattle.sheet.specs.declared.Call.{Call}
 use Rattle.model.specs.Limits.{lastAdapter}
@@ -26,6 +27,7 @@ use Rattle.tokens.proofs.Okay.{okay}
 use Rattle.references.proofs.NumberLaws.{Refuses, refusal-least}
 use Rattle.language.proofs.RefusalLaws.{call-refuses}
 use Rattle.language.proofs.RangeLaws.{ranges}
+use Rattle.language.proofs.NumberLaws.{numbers}
 use Rattle.language.proofs.HabitLaws.{wide-accepts}
 use Rattle.language.specs.Section.{Lists}
 use Rattle.language.specs.Range.{rangeOf}
@@ -126,6 +128,7 @@ module _ (call : Call) (in-range : call .primary ≤ lastAdapter) (text sheet le
         lists = ap (parsed (lexText text)) (rule .accepted);
         reads = reads;
         ranges = ranges call sheet in-range (reads .reading);
+        numbers = numbers (token-numbers text (reads .gives .lexed)) (reads .reading);
       }
 
   asked-sound : {f : View → Outcome} → Asked call text sheet lent words f → Sound (f (seen call sheet))

@@ -25,6 +25,7 @@ use Rattle.topics.specs.Ranges.{nameIn}
 use Rattle.model.specs.Lists.{acceptedWith}
 use Rattle.model.specs.Ranges.{In-range}
 use Rattle.language.specs.Range.{rangeOf}
+use Rattle.language.specs.Numbers.{Numbers-in-range}
 use Rattle.language.specs.Topics.{topicsOf}
 use Rattle.language.specs.grammar.Text.{Reading-with}
 use Rattle.model.specs.declared.Trigger.{Trigger}
@@ -67,6 +68,8 @@ pub record Accepts (call : Call) (text sheet lent : List ℕ) (size : ℕ) (answ
   pub lists : answer ≡ acceptedWith triggers conditions
   pub reads : Has-reading call text sheet lent size triggers conditions
   pub ranges : In-range triggers conditions
+  -- and no number that an integer, a time or a duration writes is out of its limits
+  pub numbers : Numbers-in-range triggers conditions
 
 -- each duration among the tokens whose records these words are: its milliseconds are the written decimal times the unit, with nothing rounded
 abbrev pub Durations : List ℕ → List ℕ → Type 0

@@ -1,4 +1,5 @@
 pub mod Limits
+pub mod Numbers
 pub mod Range
 pub mod Words
 pub mod Timeval

@@ -17,6 +17,7 @@ pub mod RulesLaws
 pub mod LayoutLaws
 pub mod SpelledLaws
 pub mod BufferLaws
+pub mod NumberLaws
 pub mod PlacedLaws
 pub mod FormerLaws
 pub mod DurationLaws

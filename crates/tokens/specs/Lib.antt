@@ -12,6 +12,7 @@ pub mod Result
 pub mod Cursor
 pub mod Phrase
 pub mod Grammar
+pub mod Numbers
 pub mod Layout
 pub mod Placed
 pub mod Buffer
