@@ -1,2 +1,4 @@
+pub mod Back
 pub mod Codes
 pub mod Flat
+pub mod Held
