@@ -32,23 +32,23 @@ use Rattle.language.specs.Read.{parsed, ruleOf, lexedFrom, byPrimary, by
 use Rattle.language.specs.Demand.{Gives}
 
 -- a lexing that ends is parsed
-pub lexed-complete : (text : List ℕ) (view : View) (lent : List ℕ) (whole : Lexing) {l : Lexing} {count : ℕ} → Ended l count →
+pub lexed-complete : (text : List ℕ) (view : View) (lent : List (List ℕ)) (whole : Lexing) {l : Lexing} {count : ℕ} → Ended l count →
     lexedFrom text view lent whole l ≡ parsed whole (ruleOf text (recordWords whole) view lent)
 unfolding lexedFrom
 lexed-complete text view lent whole at-end = refl
 lexed-complete text view lent whole (behind e) = lexed-complete text view lent whole e
 
 -- a lexing refuses the text, or ends
-data Lexed (text lent : List ℕ) (whole l : Lexing) : Type 0 where
+data Lexed (text : List ℕ) (lent : List (List ℕ)) (whole l : Lexing) : Type 0 where
   refused-by : {a : Answer} → ((view : View) → lexedFrom text view lent whole l ≡ a) → (a .number ≡ 0 → ⊥) → Lexed text lent whole l
   ended-at : (count : ℕ) → Ended l count → Lexed text lent whole l
 
-lexed-next : {text lent : List ℕ} {whole l : Lexing} (r : Record) → Lexed text lent whole l → Lexed text lent whole (token r l)
+lexed-next : {text : List ℕ} {lent : List (List ℕ)} {whole l : Lexing} (r : Record) → Lexed text lent whole l → Lexed text lent whole (token r l)
 unfolding lexedFrom
 lexed-next r (refused-by h n) = refused-by h n
 lexed-next r (ended-at count h) = ended-at _ (behind h)
 
-lexed : {text : List ℕ} (lent : List ℕ) {whole l : Lexing} {before : List Character} → Laid text before l → Lexed text lent whole l
+lexed : {text : List ℕ} (lent : List (List ℕ)) {whole l : Lexing} {before : List Character} → Laid text before l → Lexed text lent whole l
 unfolding lexedFrom refusedWith
 lexed lent (end gap t h) = ended-at 0 at-end
 lexed lent (refusal gap c rest t h n) = refused-by (λ view. refl) (lexical n)
@@ -63,11 +63,11 @@ pub record Passed (call : Call) (text sheet : List ℕ) (size : ℕ) : Type 0 wh
   pub gives : Gives text (lexText text) count
 
 -- then the records are written, and the rule in them is parsed
-abbrev pub parsing : List ℕ → List ℕ → List ℕ → View → Outcome
+abbrev pub parsing : List ℕ → List (List ℕ) → List ℕ → View → Outcome
 parsing text lent words view =
     record { answer = parsed (lexText text) (ruleOf text (recordWords (lexText text)) view lent); buffer = writtenFrom 0 words (lexText text) }
 
-module _ (call : Call) (text sheet lent words : List ℕ) where
+module _ (call : Call) (text sheet : List ℕ) (lent : List (List ℕ)) (words : List ℕ) where
   -- what is answered, by what is seen
   abbrev pub answering : View → Outcome
   answering view =

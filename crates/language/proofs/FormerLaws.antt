@@ -33,7 +33,7 @@ use Rattle.language.specs.Read.{parsed, topicsWith, onAccepted, anywhere
 
 -- ---- buffers of different lengths
 
-module _ (call : Call) (text sheet lent words other : List ℕ) where
+module _ (call : Call) (text sheet : List ℕ) (lent : List (List ℕ)) (words other : List ℕ) where
   abbrev own : Bool
   own = ownPrimary call sheet
 
@@ -72,38 +72,38 @@ tokenOf text r =
 abbrev pub rangeIn : Record → Name
 rangeIn r = record { start = r .start; length = r .length }
 
-unfoldable pub formerRuleAt : List ℕ → List ℕ → View → List ℕ → Res Lists
+unfoldable pub formerRuleAt : List ℕ → List ℕ → View → List (List ℕ) → Res Lists
 formerRuleAt text words view lent =
     ruleAt (λ i. tokenOf text (formerRecordAt words i)) view (λ i. rangeIn (formerRecordAt words i)) (topicsWith text lent) (formerCapacity words)
 
-unfoldable pub formerRuleOf : List ℕ → List ℕ → View → List ℕ → Res Lists
+unfoldable pub formerRuleOf : List ℕ → List ℕ → View → List (List ℕ) → Res Lists
 formerRuleOf text words view lent = onAccepted (formerRuleAt text words (anywhere view) lent) (formerRuleAt text words view lent)
 
-unfoldable pub formerLexedFrom : List ℕ → View → List ℕ → Lexing → Lexing → Answer
+unfoldable pub formerLexedFrom : List ℕ → View → List (List ℕ) → Lexing → Lexing → Answer
 formerLexedFrom text view lent whole (ended p) = parsed whole (formerRuleOf text (formerWords whole) view lent)
 formerLexedFrom text view lent whole (refused number p) = refusedWith number (p .line) (p .column) 0
 formerLexedFrom text view lent whole (token r l) = formerLexedFrom text view lent whole l
 
-unfoldable pub formerByPrimary : List ℕ → View → List ℕ → Bool → Answer
+unfoldable pub formerByPrimary : List ℕ → View → List (List ℕ) → Bool → Answer
 formerByPrimary text view lent true = formerLexedFrom text view lent (lexText text) (lexText text)
 formerByPrimary text view lent false = refusedWith 53 0 0 0
 
-unfoldable pub formerByText : List ℕ → View → List ℕ → Bool → Checked → Answer
+unfoldable pub formerByText : List ℕ → View → List (List ℕ) → Bool → Checked → Answer
 formerByText text view lent own WellFormed = formerByPrimary text view lent own
 formerByText text view lent own (IllFormed line column) = refusedWith 4 line column 0
 
-unfoldable pub formerBySheet : List ℕ → View → List ℕ → Bool → Sheet → Answer
+unfoldable pub formerBySheet : List ℕ → View → List (List ℕ) → Bool → Sheet → Answer
 formerBySheet text view lent own well-formed = formerByText text view lent own (checkOf text)
 formerBySheet text view lent own (bad-line n) = refusedWith 3 n 0 0
 
-unfoldable pub formerAnswer : Call → List ℕ → List ℕ → List ℕ → ℕ → Answer
+unfoldable pub formerAnswer : Call → List ℕ → List ℕ → List (List ℕ) → ℕ → Answer
 formerAnswer call text sheet lent size =
     pick (ltb mostBytes (length text)) (refusedWith 1 0 0 0)
     (pick (ltb size formerLeastWords) (refusedWith 2 0 0 0) (formerBySheet text (seen call sheet) lent (ownPrimary call sheet) (sheetCheck sheet)))
 
 -- ---- it answered the same
 
-module _ (text : List ℕ) (view : View) (lent words : List ℕ) (short : length text ≤ mostBytes) where
+module _ (text : List ℕ) (view : View) (lent : List (List ℕ)) (words : List ℕ) (short : length text ≤ mostBytes) where
   former-rule : ruleOf text (recordWords (lexText text)) view lent ≡ formerRuleOf text (formerWords (lexText text)) view lent
   unfolding ruleOf tokens rangeOf bytesAt recordAt formerRuleOf formerRuleAt
   former-rule =
@@ -135,13 +135,13 @@ module _ (text : List ℕ) (view : View) (lent words : List ℕ) (short : length
   former-sheet own well-formed = former-text own (checkOf text)
   former-sheet own (bad-line n) = refl
 
-former-asked : (call : Call) (text sheet lent words : List ℕ) (long : Bool) → (long ≡ false → length text ≤ mostBytes) →
+former-asked : (call : Call) (text sheet : List ℕ) (lent : List (List ℕ)) (words : List ℕ) (long : Bool) → (long ≡ false → length text ≤ mostBytes) →
     pick long (record { answer = refusedWith 1 0 0 0; buffer = words }) (bySheet text (seen call sheet) lent words (ownPrimary call sheet) (sheetCheck sheet)) .answer ≡
     pick long (refusedWith 1 0 0 0) (formerBySheet text (seen call sheet) lent (ownPrimary call sheet) (sheetCheck sheet))
 former-asked call text sheet lent words true short = refl
 former-asked call text sheet lent words false short = former-sheet text (seen call sheet) lent words (short refl) (ownPrimary call sheet) (sheetCheck sheet)
 
-pub as-before : (call : Call) (text sheet lent words : List ℕ) → formerLeastWords ≤ length words →
+pub as-before : (call : Call) (text sheet : List ℕ) (lent : List (List ℕ)) (words : List ℕ) → formerLeastWords ≤ length words →
     readOf call text sheet lent words .answer ≡ formerAnswer call text sheet lent (length words)
 unfolding readOf formerAnswer
 as-before call text sheet lent words room =

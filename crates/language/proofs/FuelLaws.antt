@@ -62,12 +62,12 @@ module _ (t : ℕ → Tok) (view : View) (range : ℕ → Name) {n m k : ℕ} (e
       rw (named topics, conditions, condition)
 
 -- a call gives the number of its records as that count: no larger one would change its answer
-rule-in-fuel : (text words : List ℕ) (view : View) (lent : List ℕ) (k : ℕ) → capacity words ≤ k →
+rule-in-fuel : (text words : List ℕ) (view : View) (lent : List (List ℕ)) (k : ℕ) → capacity words ≤ k →
     ruleIn text words view lent ≡ ruleAt (tokens text words) view (rangeOf words) (topicsWith text lent) k
 rule-in-fuel text words view lent k h =
     rule-fuel (tokens text words) view (rangeOf words) (no-token text words) (omega arith) h (topicsWith text lent)
 
-pub call-fuel : (text words : List ℕ) (view : View) (lent : List ℕ) (k : ℕ) → capacity words ≤ k →
+pub call-fuel : (text words : List ℕ) (view : View) (lent : List (List ℕ)) (k : ℕ) → capacity words ≤ k →
     ruleOf text words view lent ≡
     onAccepted (ruleAt (tokens text words) (anywhere view) (rangeOf words) (topicsWith text lent) k)
     (ruleAt (tokens text words) view (rangeOf words) (topicsWith text lent) k)

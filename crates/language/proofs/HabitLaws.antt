@@ -264,7 +264,7 @@ parsed-but-63 l all (same e) h = refl
 parsed-but-63 l all (repeat n a b e) h = absurd (h n)
 parsed-but-63 l all (offends {k} m f a r e) h = absurd (false≢true (sym a ∙ all k))
 
-module _ (text lent words : List ℕ) (view : View) where
+module _ (text : List ℕ) (lent : List (List ℕ)) (words : List ℕ) (view : View) where
   abbrev some : Outcome
   some = parsing text lent words (anywhere view)
 
@@ -279,14 +279,14 @@ module _ (text lent words : List ℕ) (view : View) where
       rw (accepted-same (ruleIn text records (anywhere view) lent), accepted-same (ruleIn text records (seen-one (repeating view)) lent))
       (λ h. ap (λ (a : Answer). record { answer = a; buffer = writtenFrom 0 words (lexText text) }) (parsed-but-63 (lexText text) (λ k. refl) rule h))
 
-asked-but-63 : {call : Call} {text sheet lent words : List ℕ} {f : View → Outcome} (view : View) → Asked call text sheet lent words f →
+asked-but-63 : {call : Call} {text sheet : List ℕ} {lent : List (List ℕ)} {words : List ℕ} {f : View → Outcome} (view : View) → Asked call text sheet lent words f →
     (f (anywhere view) .answer .number ≡ 63 → ⊥) → f (anywhere view) ≡ f (seen-one (repeating view))
 asked-but-63 view (before e n) h = e _ ∙ sym (e _)
 asked-but-63 {text = text} {lent = lent} {words = words} view (reached p e) h =
     e _ ∙ rule-but-63 text lent words view (λ z. h (rw (e (anywhere view)) z)) ∙ sym (e _)
 
 -- an answer of the default call other than 63 is the archive call's, list for list and place for place, and so are the words at exit
-pub same-but-63 : (party primary : ℕ) (text sheet lent words : List ℕ) → (readOf (ruleCall party primary) text sheet lent words .answer .number ≡ 63 → ⊥) →
+pub same-but-63 : (party primary : ℕ) (text sheet : List ℕ) (lent : List (List ℕ)) (words : List ℕ) → (readOf (ruleCall party primary) text sheet lent words .answer .number ≡ 63 → ⊥) →
     readOf (ruleCall party primary) text sheet lent words ≡ readOf (archiveCall party primary) text sheet lent words
 unfolding readOf seen ownPrimary mayRepeat anyForm
 same-but-63 party primary text sheet lent words =

@@ -36,7 +36,7 @@ parsed-late l (ok lists j) h = refl
 parsed-late l (no r) h =
     refusal-late (r .number) h
 
-lexed-late : {text : List ℕ} {before : List Character} (view : View) (lent : List ℕ) (whole : Lexing) {l : Lexing} → Laid text before l →
+lexed-late : {text : List ℕ} {before : List Character} (view : View) (lent : List (List ℕ)) (whole : Lexing) {l : Lexing} → Laid text before l →
     isAskedFirst (lexedFrom text view lent whole l .number) ≡ false
 unfolding lexedFrom refusedWith
 lexed-late {text} view lent whole (end gap t h) =
@@ -44,7 +44,7 @@ lexed-late {text} view lent whole (end gap t h) =
 lexed-late view lent whole (refusal gap c rest t h n) = lexical-late n
 lexed-late view lent whole (next gap u rest t s h k) = lexed-late view lent whole k
 
-module _ (call : Call) (text sheet lent words : List ℕ) where
+module _ (call : Call) (text sheet : List ℕ) (lent : List (List ℕ)) (words : List ℕ) where
   abbrev Held : Outcome → Type 0
   Held o = Holds (frontOf (o .answer .number) text) words (o .buffer)
 
@@ -77,6 +77,6 @@ module _ (call : Call) (text sheet lent words : List ℕ) where
   read-held = asked-first (ltb mostBytes (length text)) (ltb (length words) leastWords) (ltb-false (length words) leastWords)
 
 -- of what a call that answers x left in the words
-pub read-holds : (call : Call) (text sheet lent words : List ℕ) {x : Answer} {exit : List ℕ} → x ≡ readOf call text sheet lent words .answer →
+pub read-holds : (call : Call) (text sheet : List ℕ) (lent : List (List ℕ)) (words : List ℕ) {x : Answer} {exit : List ℕ} → x ≡ readOf call text sheet lent words .answer →
     exit ≡ readOf call text sheet lent words .buffer → Holds (frontOf (x .number) text) words exit
 read-holds call text sheet lent words e f = rw (e, f) (read-held call text sheet lent words)

@@ -61,7 +61,7 @@ one-answer : {m : Res Lists} {lists : Lists} {j : ℕ} {r : Refusal} → m ≡ o
 one-answer e d = let z : _≡_ {A = ℕ} 0 1 = cc in omega arith
 
 -- what is answered for the rule in the records, with what is seen
-abbrev answered : List ℕ → List ℕ → View → Res Lists
+abbrev answered : List ℕ → List (List ℕ) → View → Res Lists
 answered text lent view = ruleIn text (recordWords (lexText text)) view lent
 
 -- at every token but one
@@ -69,7 +69,7 @@ abbrev all-but : ℕ → ℕ → Bool
 all-but k i = pick (eqb i k) false true
 
 -- the first allows none of the forms
-module _ (text lent : List ℕ) (view : View) (none : (k : ℕ) → view .allows k ≡ false) where
+module _ (text : List ℕ) (lent : List (List ℕ)) (view : View) (none : (k : ℕ) → view .allows k ≡ false) where
   abbrev calls : (ℕ → Bool) → Calls
   calls one = under view one (λ k e. absurd (false≢true (sym (none k) ∙ e)))
 
@@ -92,7 +92,7 @@ module _ (text lent : List ℕ) (view : View) (none : (k : ℕ) → view .allows
     accepted-before : (l : ℕ) → l < k → answered text lent (except l (anywhere view)) ≡ ok lists j
     accepted-before l h = offence-at (compared (all-but l)) e f .accepts (λ i m. rw (ne-eqb i l (λ z. omega arith))) ∙ f
 
-module _ (party primary : ℕ) (text sheet lent words : List ℕ) where
+module _ (party primary : ℕ) (text sheet : List ℕ) (lent : List (List ℕ)) (words : List ℕ) where
   abbrev full : View
   full = seen (ruleCall party primary) sheet
 
@@ -152,7 +152,7 @@ module _ (party primary : ℕ) (text sheet lent words : List ℕ) where
   asked-profiled (reached p e) = rw (e full, e strict) (parsed-profiled p)
 
 -- the shop profile: for every party, primary adapter, text, sheet, lent topics and buffer
-pub profiled : (party primary : ℕ) (text sheet lent words : List ℕ) →
+pub profiled : (party primary : ℕ) (text sheet : List ℕ) (lent : List (List ℕ)) (words : List ℕ) →
     Profiled party primary text sheet lent (length words) (readOf (ruleCall party primary) text sheet lent words)
     (readOf (shopCall party primary) text sheet lent words)
 unfolding readOf ownPrimary

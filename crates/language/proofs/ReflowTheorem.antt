@@ -21,7 +21,7 @@ use Rattle.tokens.proofs.BufferLaws.{records-count}
 use Rattle.sheet.specs.Sheet.{Sheet, well-formed, bad-line, sheetCheck}
 use Rattle.sheet.specs.View.{View, seen, ownPrimary}
 use Rattle.sheet.specs.declared.Call.{Call}
-use Rattle.topics.specs.Topics.{fits, lentTopics}
+use Rattle.topics.specs.Topics.{fits}
 use Rattle.topics.specs.Ranges.{topicBy, nameIn}
 use Rattle.topics.specs.declared.ranges.Topic.{Topic}
 use Rattle.topics.specs.declared.ranges.Topic.the-variants.{Absent, Is}
@@ -111,7 +111,7 @@ shownLists text lists = (map (shownTrigger text) (lists .triggers), map (shownCo
 pair-same : {A B : Type 0} {x y : A} {u v : B} → x ≡ y → u ≡ v → _≡_ {A = A × B} (x, u) (y, v)
 pair-same e f = rw (e, f)
 
-module _ (t : ℕ → Tok) (view : View) (fuel : ℕ) (a b : List ℕ) (lent : List ℕ) (r s : ℕ → Name)
+module _ (t : ℕ → Tok) (view : View) (fuel : ℕ) (a b : List ℕ) (lent : List (List ℕ)) (r s : ℕ → Name)
     (strings : (n : ℕ) → t n .kind ≡ STRING → nameIn a (r n) ≡ nameIn b (s n)) where
   named-alike : (named : List (List ℕ)) (i : ℕ) →
       Alike (shownTrigger a) (shownTrigger b) (triggerNamed t view r (topicsWith a lent) fuel named i) (triggerNamed t view s (topicsWith b lent) fuel named i)
@@ -122,7 +122,7 @@ module _ (t : ℕ → Tok) (view : View) (fuel : ℕ) (a b : List ℕ) (lent : L
       alike-bind f g f g _ _ _ _ (trigger-alike t view fuel a b r s strings i)
       (λ x y j e.
       rw (same-topic a b x y e)
-      (alike-pick f g (fits (lentTopics lent) named (topicOf (nameIn b) y)) _ _ _ _ (alike-ok f g x y j e) (alike-no f g _)))
+      (alike-pick f g (fits lent named (topicOf (nameIn b) y)) _ _ _ _ (alike-ok f g x y j e) (alike-no f g _)))
 
   when-alike : (i : ℕ) →
       Alike (map (shownTrigger a)) (map (shownTrigger b)) (whenSection t view r (topicsWith a lent) fuel i) (whenSection t view s (topicsWith b lent) fuel i)
@@ -208,11 +208,11 @@ module _ {a b : List ℕ} (same : Same-tokens a b) where
       let other = ap (λ (t : ℕ → Tok). t n) all-alike in
       string-bytes a wa n e ∙ ap (λ (x : Tok). x .bytes) other ∙ sym (string-bytes b wb n (sym (ap (λ (x : Tok). x .kind) other) ∙ e))
 
-  rule-in-alike : (view : View) (lent : List ℕ) → Alike (shownLists a) (shownLists b) (ruleIn a wa view lent) (ruleIn b wb view lent)
+  rule-in-alike : (view : View) (lent : List (List ℕ)) → Alike (shownLists a) (shownLists b) (ruleIn a wa view lent) (ruleIn b wb view lent)
   rule-in-alike view lent =
       rw (← all-alike, second-count, ← first-count) (rule-alike (tokens a wa) view (capacity wa) a b lent (rangeOf wa) (rangeOf wb) strings-alike)
 
-  rule-of-alike : (view : View) (lent : List ℕ) → Alike (shownLists a) (shownLists b) (ruleOf a wa view lent) (ruleOf b wb view lent)
+  rule-of-alike : (view : View) (lent : List (List ℕ)) → Alike (shownLists a) (shownLists b) (ruleOf a wa view lent) (ruleOf b wb view lent)
   unfolding ruleOf
   rule-of-alike view lent = accepted-alike (shownLists a) (shownLists b) _ _ _ _ (rule-in-alike (anywhere view) lent) (rule-in-alike view lent)
 
@@ -224,7 +224,7 @@ module _ {a b : List ℕ} (same : Same-tokens a b) where
   parsed-same (no r) (no s) h =
       subst (λ z. Same-answer a b (parsed (lexText a) (no r)) (parsed (lexText b) (no z))) h (at-token (r .number) (r .token) (r .detail))
 
-  module _ (call : Call) (sheet lent v w : List ℕ) where
+  module _ (call : Call) (sheet : List ℕ) (lent : List (List ℕ)) (v w : List ℕ) where
     own-same : (own : Bool) → Same-answer a b (byPrimary a (seen call sheet) lent v own .answer) (byPrimary b (seen call sheet) lent w own .answer)
     unfolding byPrimary
     own-same false = at-place 53 0 0 refl

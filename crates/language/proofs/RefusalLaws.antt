@@ -141,6 +141,6 @@ unfolding onAccepted Refuses
 accepted-refuses (ok lists i) judged h g = g
 accepted-refuses (no r) judged h g = h
 
-pub call-refuses : (text words : List ℕ) (view : View) (lent : List ℕ) → Refuses (ruleOf text words view lent)
+pub call-refuses : (text words : List ℕ) (view : View) (lent : List (List ℕ)) → Refuses (ruleOf text words view lent)
 unfolding ruleOf
 call-refuses text words view lent = accepted-refuses _ _ (rule-refuses _ _ _ _ _) (rule-refuses _ _ _ _ _)

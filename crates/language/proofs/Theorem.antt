@@ -42,7 +42,7 @@ use Rattle.language.proofs.AskedLaws.{lexed-complete, Passed, parsing, 
 use Rattle.language.proofs.TextLaws.{Read-with, rule-sound, rule-complete, one-reading}
 
 -- a rule's lists are a reading of the tokens in the records
-abbrev Reads : List ℕ → List ℕ → View → List ℕ → Lists → ℕ → Type 0
+abbrev Reads : List ℕ → List ℕ → View → List (List ℕ) → Lists → ℕ → Type 0
 Reads text words view lent lists j =
     Read-with (tokens text words) view (rangeOf words) (topicsWith text lent) (capacity words) (lists .triggers) (lists .conditions)
 
@@ -74,7 +74,7 @@ unfolding lexText
 few text h = most-tokens mostTokens text start h
 
 -- where what is asked first is met, the lists of a rule are a reading with what is seen
-pub passed-reads : {call : Call} {text sheet lent : List ℕ} {size : ℕ} {view : View} {lists : Lists} {j : ℕ} → Passed call text sheet size →
+pub passed-reads : {call : Call} {text sheet : List ℕ} {lent : List (List ℕ)} {size : ℕ} {view : View} {lists : Lists} {j : ℕ} → Passed call text sheet size →
     ruleIn text (recordWords (lexText text)) view lent ≡ ok lists j →
     Has-reading-seeing view call text sheet lent size (lists .triggers) (lists .conditions)
 passed-reads {text = text} {lent = lent} {view = view} p e =
@@ -111,7 +111,7 @@ judged-sound (ok lists i) judged e = e
 judged-sound (no r) judged e = absurd (let z : _≡_ {A = ℕ} 0 1 = cc in omega arith)
 
 -- Accepted with number 0.
-module _ (call : Call) (in-range : call .primary ≤ lastAdapter) (text sheet lent words : List ℕ) where
+module _ (call : Call) (in-range : call .primary ≤ lastAdapter) (text sheet : List ℕ) (lent : List (List ℕ)) (words : List ℕ) where
   abbrev Sound : Outcome → Type 0
   Sound o = o .answer .number ≡ 0 → Accepts call text sheet lent (length words) (o .answer)
 
@@ -140,7 +140,7 @@ module _ (call : Call) (in-range : call .primary ≤ lastAdapter) (text sheet le
   sound = asked-sound (asked call text sheet lent words)
 
 -- Readings with any view, and what is answered with it.
-module _ {view : View} {call : Call} {text sheet lent : List ℕ} {size : ℕ} {xs : List Trigger} {ys : List Condition}
+module _ {view : View} {call : Call} {text sheet : List ℕ} {lent : List (List ℕ)} {size : ℕ} {xs : List Trigger} {ys : List Condition}
     (h : Has-reading-seeing view call text sheet lent size xs ys) where
   abbrev words : List ℕ
   words = recordWords (lexText text)
@@ -170,7 +170,7 @@ module _ {view : View} {call : Call} {text sheet lent : List ℕ} {size : ℕ} {
       let wide = wide-accepts (tokens text words) view (rangeOf words) (topicsWith text lent) (capacity words) rule in
       rw (lexed-complete text view lent (lexText text) finished, wide, rule)
 
-complete : (call : Call) (text sheet lent words : List ℕ) (xs : List Trigger) (ys : List Condition) → Has-reading call text sheet lent (length words) xs ys →
+complete : (call : Call) (text sheet : List ℕ) (lent : List (List ℕ)) (words : List ℕ) (xs : List Trigger) (ys : List Condition) → Has-reading call text sheet lent (length words) xs ys →
     readOf call text sheet lent words .answer ≡ acceptedWith xs ys
 unfolding readOf bySheet byText byPrimary
 complete call text sheet lent words xs ys h =
@@ -184,14 +184,14 @@ complete call text sheet lent words xs ys h =
     )
 
 -- two readings of the same tokens with the same view and the same lent topics are equal
-pub one-reading-only : (text words : List ℕ) (view : View) (lent : List ℕ) {xs us : List Trigger} {ys vs : List Condition} →
+pub one-reading-only : (text words : List ℕ) (view : View) (lent : List (List ℕ)) {xs us : List Trigger} {ys vs : List Condition} →
     Read-with (tokens text words) view (rangeOf words) (topicsWith text lent) (capacity words) xs ys →
     Read-with (tokens text words) view (rangeOf words) (topicsWith text lent) (capacity words) us vs → (xs ≡ us) × (ys ≡ vs)
 one-reading-only text words view lent h g =
     one-reading (tokens text words) view (rangeOf words) (topicsWith text lent) (capacity words) (past text words) h g
 
 -- the third demand: for every call, text, sheet and buffer. A call's primary adapter is a byte.
-pub exact : (call : Call) → call .primary ≤ lastAdapter → (text sheet lent words : List ℕ) → Exact call text sheet lent (length words) (readOf call text sheet lent words .answer)
+pub exact : (call : Call) → call .primary ≤ lastAdapter → (text sheet : List ℕ) (lent : List (List ℕ)) (words : List ℕ) → Exact call text sheet lent (length words) (readOf call text sheet lent words .answer)
 exact call in-range text sheet lent words =
     record {
       sound = sound call in-range text sheet lent words;

@@ -20,7 +20,7 @@ use Rattle.tokens.specs.Ended.{Ended, recordWords}
 use Rattle.sheet.specs.Sheet.{Sheet, well-formed, sheetCheck}
 use Rattle.sheet.specs.View.{View, seen, ownPrimary}
 use Rattle.sheet.specs.declared.Call.{Call}
-use Rattle.topics.specs.Topics.{lentTopics, Allowed}
+use Rattle.topics.specs.Topics.{Allowed}
 use Rattle.topics.specs.Ranges.{nameIn}
 use Rattle.model.specs.Lists.{acceptedWith}
 use Rattle.model.specs.Ranges.{In-range}
@@ -46,7 +46,7 @@ pub record Gives (text : List ℕ) (l : Lexing) (count : ℕ) : Type 0 where
 
 -- "A reading of a text's tokens with a sheet is a list of triggers and one of conditions": which ones the tokens have, the grammar says
 -- (grammar/Text.antt). What else is asked of a call is met: 2, 3, 19, 53 and 66.
-pub record Has-reading-seeing (view : View) (call : Call) (text sheet lent : List ℕ) (size : ℕ) (xs : List Trigger) (ys : List Condition) : Type 0 where
+pub record Has-reading-seeing (view : View) (call : Call) (text sheet : List ℕ) (lent : List (List ℕ)) (size : ℕ) (xs : List Trigger) (ys : List Condition) : Type 0 where
   pub room : leastWords ≤ size
   pub sheet-passes : sheetCheck sheet ≡ well-formed
   pub own : ownPrimary call sheet ≡ true
@@ -56,13 +56,13 @@ pub record Has-reading-seeing (view : View) (call : Call) (text sheet lent : Lis
   pub few : count ≤ mostTokens
   pub reading : Reading-with (tokens text (recordWords lexing)) view (rangeOf (recordWords lexing)) xs ys
   -- document 02, §12: "A reading needs this too": where the text names a topic that is not lent, its topics and the lent come to at most eight
-  pub topics : Allowed (lentTopics lent) (topicsOf (nameIn text) xs)
+  pub topics : Allowed lent (topicsOf (nameIn text) xs)
 
-abbrev pub Has-reading : Call → List ℕ → List ℕ → List ℕ → ℕ → List Trigger → List Condition → Type 0
+abbrev pub Has-reading : Call → List ℕ → List ℕ → List (List ℕ) → ℕ → List Trigger → List Condition → Type 0
 Has-reading call text sheet lent size xs ys = Has-reading-seeing (seen call sheet) call text sheet lent size xs ys
 
 -- an answer with number 0: it has the lists of a reading, and in these no reference is out of its kind's range
-pub record Accepts (call : Call) (text sheet lent : List ℕ) (size : ℕ) (answer : Answer) : Type 0 where
+pub record Accepts (call : Call) (text sheet : List ℕ) (lent : List (List ℕ)) (size : ℕ) (answer : Answer) : Type 0 where
   pub triggers : List Trigger
   pub conditions : List Condition
   pub lists : answer ≡ acceptedWith triggers conditions
@@ -76,7 +76,7 @@ abbrev pub Durations : List ℕ → List ℕ → Type 0
 Durations text words = (i : ℕ) → kindAt words i ≡ DURATION → Duration (bytesAt text words i) (numberAt words i)
 
 -- the third demand
-pub record Exact (call : Call) (text sheet lent : List ℕ) (size : ℕ) (answer : Answer) : Type 0 where
+pub record Exact (call : Call) (text sheet : List ℕ) (lent : List (List ℕ)) (size : ℕ) (answer : Answer) : Type 0 where
   -- what is accepted has a reading, and is answered with that reading's lists
   pub sound : answer .number ≡ 0 → Accepts call text sheet lent size answer
   -- what has a reading is accepted, with that reading's lists

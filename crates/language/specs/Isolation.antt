@@ -12,5 +12,5 @@ use Rattle.language.specs.Read.{readOf}
 -- is looks neither at the sheets' `primary` lines nor at how `party` rows are spelled, nor at anything of another's adapters.
 abbrev pub Isolated : Type 0
 Isolated =
-    (call : Call) (text s t lent words : List ℕ) → sheetCheck s ≡ well-formed → sheetCheck t ≡ well-formed → Agree (call .party) s t →
+    (call : Call) (text s t : List ℕ) (lent : List (List ℕ)) (words : List ℕ) → sheetCheck s ≡ well-formed → sheetCheck t ≡ well-formed → Agree (call .party) s t →
     readOf call text s lent words ≡ readOf call text t lent words

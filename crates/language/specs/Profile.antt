@@ -36,7 +36,7 @@ except k view =
 unfoldable pub offenceNumber : (ℕ → Tok) → ℕ → ℕ
 offenceNumber t k = pick (isKind t INTEGER k) 57 (pick (isWord t (ascii "broadcast") k) 58 59)
 
-module _ (party primary : ℕ) (text sheet lent : List ℕ) (size : ℕ) where
+module _ (party primary : ℕ) (text sheet : List ℕ) (lent : List (List ℕ)) (size : ℕ) where
   -- such a form stands at the token k: the default call has a reading, and none if such a form may not stand there
   pub record Offends (k : ℕ) : Type 0 where
     pub triggers : List Trigger

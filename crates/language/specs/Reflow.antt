@@ -42,5 +42,5 @@ pub data Same-answer (a b : List ℕ) : Answer → Answer → Type 0 where
 -- call may differ
 abbrev pub Layout-changes-nothing : Type 0
 Layout-changes-nothing =
-    (call : Call) (a b sheet lent v w : List ℕ) → Same-tokens a b → length v ≡ length w →
+    (call : Call) (a b sheet : List ℕ) (lent : List (List ℕ)) (v w : List ℕ) → Same-tokens a b → length v ≡ length w →
     Same-answer a b (readOf call a sheet lent v .answer) (readOf call b sheet lent w .answer)

@@ -44,7 +44,7 @@ full-seen : (settings : Settings) (sheet : List ℕ) → settings .habit ≡ Hab
 unfolding viewOf withHabit mayRepeat anyForm
 full-seen settings sheet h = rw (h)
 
-module _ (settings : Settings) (text words sheet lent : List ℕ) where
+module _ (settings : Settings) (text words sheet : List ℕ) (lent : List (List ℕ)) where
   -- the rule as it is read with another habit
   abbrev read-by : Habit → Res Lists
   read-by habit = ruleIn text words (viewOf (withHabit habit settings) sheet) lent
@@ -86,7 +86,7 @@ module _ (settings : Settings) (text words sheet lent : List ℕ) where
     rule-shop h e = rw (← full-seen settings sheet h, ← shop-seen settings sheet h) e
 
 -- what the shop's call promises of the forms that the profile leaves out, by its answer and the words at exit
-pub profiled-by : (party primary : ℕ) (text sheet lent words : List ℕ) {a : Answer} {exit : List ℕ} →
+pub profiled-by : (party primary : ℕ) (text sheet : List ℕ) (lent : List (List ℕ)) (words : List ℕ) {a : Answer} {exit : List ℕ} →
     a ≡ readOf (shopCall party primary) text sheet lent words .answer → exit ≡ readOf (shopCall party primary) text sheet lent words .buffer →
     Profiled party primary text sheet lent (length words) (readOf (ruleCall party primary) text sheet lent words) (record { answer = a; buffer = exit })
 profiled-by party primary text sheet lent words e f = rw (e, f) (profiled party primary text sheet lent words)

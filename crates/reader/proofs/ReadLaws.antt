@@ -37,6 +37,9 @@ use Rattle.sheet.specs.declared.rows.Verdict.the-variants.{BadLine}
 use Rattle.sheet.proofs.AdapterLaws.{has-packed}
 use Rattle.sheet.proofs.SurveyLaws.{survey-bad, survey-well}
 use Rattle.sheet.proofs.ViewLaws.{seen-settings}
+use Rattle.topics.specs.Topics.{lentTopics}
+use Rattle.topics.specs.Ranges.{lentWith}
+use Rattle.topics.proofs.RangeLaws.{lent-alone}
 use Rattle.language.specs.Section.{Lists}
 use Rattle.tokens.specs.Ended.{Ended, recordWords, tokenLine, tokenColumn}
 use Rattle.tokens.specs.Placed.{All-in-word}
@@ -82,13 +85,13 @@ abbrev pub Asked : List ℕ → List ℕ → Type 0
 Asked text words = (length text ≤ mostBytes) × (leastWords ≤ length words)
 
 -- what is answered once the text is lexed into these words
-abbrev lexedBy : List ℕ → View → List ℕ → List ℕ → Lexed → Answer
+abbrev lexedBy : List ℕ → View → List (List ℕ) → List ℕ → Lexed → Answer
 lexedBy text view lent words (Tokens count line column) =
     answered (take (count * recordSize) words) line column (ruleOf text (take (count * recordSize) words) view lent)
 lexedBy text view lent words (Refused number line column) = refusedWith number line column 0
 
 -- a lexing that was refused answers so, too
-refused-same : (text : List ℕ) (view : View) (lent : List ℕ) (whole l : Lexing) (number line column : ℕ) → Refused-at number line column l →
+refused-same : (text : List ℕ) (view : View) (lent : List (List ℕ)) (whole l : Lexing) (number line column : ℕ) → Refused-at number line column l →
     refusedWith number line column 0 ≡ lexedFrom text view lent whole l
 unfolding lexedFrom
 refused-same text view lent whole (ended p) number line column r = absurd r
@@ -96,7 +99,7 @@ refused-same text view lent whole (refused n p) number line column r = rw (r .0,
 refused-same text view lent whole (token r l) number line column h = refused-same text view lent whole l number line column h
 
 -- lexed into a buffer with room, and parsed from it
-module _ (text : List ℕ) (view : View) (lent words : List ℕ) (short : length text ≤ mostBytes) (room : leastWords ≤ length words) where
+module _ (text : List ℕ) (view : View) (lent : List (List ℕ)) (words : List ℕ) (short : length text ≤ mostBytes) (room : leastWords ≤ length words) where
   by-answer : (x : Lexed) → answerFrom 0 (lexText text) ≡ x →
       lexedBy text view lent (writtenFrom 0 words (lexText text)) x ≡ lexedFrom text view lent (lexText text) (lexText text)
   by-answer (Refused number line column) e = refused-same text view lent (lexText text) (lexText text) number line column (answer-refused 0 (lexText text) e)
@@ -190,26 +193,26 @@ module _ (text words : List ℕ) {x : Lexed} (answer : x ≡ lexAnswer text word
     pub records-taken : {buffer : List ℕ} → buffer ≡ lexWords text words → count * recordSize ≡ length (take (count * recordSize) buffer)
     records-taken {buffer} e = sym (length-take-le (count * recordSize) buffer (records-in e))
 
-    by-tokens : (view : View) (lent : List ℕ) {buffer : List ℕ} {r : Answer} → buffer ≡ lexWords text words →
+    by-tokens : (view : View) (lent : List (List ℕ)) {buffer : List ℕ} {r : Answer} → buffer ≡ lexWords text words →
         r ≡ answered (take (count * recordSize) buffer) line column (ruleOf text (take (count * recordSize) buffer) view lent) →
         r ≡ lexedBy text view lent (lexWords text words) (lexAnswer text words)
     by-tokens view lent e h = rw (← answer, was, ← e) h
 
-    pub lexed-yes : (view : View) (lent : List ℕ) {buffer : List ℕ} {r : Answer} → Asked text words → buffer ≡ lexWords text words →
+    pub lexed-yes : (view : View) (lent : List (List ℕ)) {buffer : List ℕ} {r : Answer} → Asked text words → buffer ≡ lexWords text words →
         r ≡ answered (take (count * recordSize) buffer) line column (ruleOf text (take (count * recordSize) buffer) view lent) →
         r ≡ byText text view lent words true (checkOf text) .answer
     lexed-yes view lent q e h = by-tokens view lent e h ∙ lexed-same text view lent words (q .0) (q .1)
 
-  by-refusal : (view : View) (lent : List ℕ) {number line column : ℕ} {r : Answer} → x ≡ Refused number line column →
+  by-refusal : (view : View) (lent : List (List ℕ)) {number line column : ℕ} {r : Answer} → x ≡ Refused number line column →
       r ≡ refusedWith number line column 0 → r ≡ lexedBy text view lent (lexWords text words) (lexAnswer text words)
   by-refusal view lent was h = rw (← answer, was) h
 
-  pub lexed-no : (view : View) (lent : List ℕ) {number line column : ℕ} {r : Answer} → Asked text words → x ≡ Refused number line column →
+  pub lexed-no : (view : View) (lent : List (List ℕ)) {number line column : ℕ} {r : Answer} → Asked text words → x ≡ Refused number line column →
       r ≡ refusedWith number line column 0 → r ≡ byText text view lent words true (checkOf text) .answer
   lexed-no view lent q was h = by-refusal view lent was h ∙ lexed-same text view lent words (q .0) (q .1)
 
 -- the words behind the lexer
-pub lexed-words : (text : List ℕ) (view : View) (lent words : List ℕ) {buffer : List ℕ} → Asked text words → buffer ≡ lexWords text words →
+pub lexed-words : (text : List ℕ) (view : View) (lent : List (List ℕ)) (words : List ℕ) {buffer : List ℕ} → Asked text words → buffer ≡ lexWords text words →
     buffer ≡ byText text view lent words true (checkOf text) .buffer
 lexed-words text view lent words q e = e ∙ words-same text view lent words (q .0) (q .1)
 
@@ -232,7 +235,7 @@ module _ (words : List ℕ) (line column : ℕ) (refusal : Refusal) {count : ℕ
   placed-past h e = lt-no (refusal .token) (capacity words) _ _ (rw (← counted) h) e
 
 -- the parser's answer on the records
-module _ (settings : Settings) (text words sheet lent : List ℕ) (line column : ℕ) {rule : Rule}
+module _ (settings : Settings) (text words sheet : List ℕ) (lent : List (List ℕ)) (line column : ℕ) {rule : Rule}
     (read : rule ≡ toRule (ruleOf text words (viewOf settings sheet) lent)) where
   yes-by : (m : Res Lists) → rule ≡ toRule m → rule .accepted ≡ true →
       record { number = 0; line = 0; column = 0; detail = 0; triggers = rule .triggers; conditions = rule .conditions } ≡ answered words line column m
@@ -262,12 +265,12 @@ module _ (settings : Settings) (text words sheet lent : List ℕ) (line column :
 pub not-own-by : (x : Checked) {r v : Checked} {a : Answer} → r ≡ x → r ≡ v → a ≡ notOwn v → a ≡ notOwn x
 not-own-by x e m h = rw (← e, m) h
 
-not-own-answer : (text : List ℕ) (view : View) (lent words : List ℕ) (c : Checked) → notOwn c ≡ byText text view lent words false c .answer
+not-own-answer : (text : List ℕ) (view : View) (lent : List (List ℕ)) (words : List ℕ) (c : Checked) → notOwn c ≡ byText text view lent words false c .answer
 unfolding notOwn byText byPrimary
 not-own-answer text view lent words WellFormed = refl
 not-own-answer text view lent words (IllFormed line column) = refl
 
-not-own-buffer : (text : List ℕ) (view : View) (lent words : List ℕ) (c : Checked) → words ≡ byText text view lent words false c .buffer
+not-own-buffer : (text : List ℕ) (view : View) (lent : List (List ℕ)) (words : List ℕ) (c : Checked) → words ≡ byText text view lent words false c .buffer
 unfolding byText byPrimary
 not-own-buffer text view lent words WellFormed = refl
 not-own-buffer text view lent words (IllFormed line column) = refl
@@ -277,7 +280,7 @@ in-byte : {n : ℕ} → Fits w8 n → n ≤ lastAdapter
 in-byte h = let f = h .fits in omega arith
 
 -- question 3's answer, taken apart: of a sheet that is well formed it says which adapters are the party's, and which are listed
-module _ (call : Call) (text sheet lent words : List ℕ) {survey : Survey} (checked : survey ≡ surveyOf (call .party) sheet) where
+module _ (call : Call) (text sheet : List ℕ) (lent : List (List ℕ)) (words : List ℕ) {survey : Survey} (checked : survey ≡ surveyOf (call .party) sheet) where
   abbrev outcome : Outcome
   outcome = bySheet text (seen call sheet) lent words (ownPrimary call sheet) (sheetCheck sheet)
 
@@ -331,7 +334,7 @@ module _ (call : Call) (text sheet lent words : List ℕ) {survey : Survey} (che
     other-buffer h = not-own-buffer text (seen call sheet) lent words (checkOf text) ∙ ap (λ (o : Outcome). o .buffer) (other-same h)
 
 -- questions 1 and 2, and what lies behind them
-module _ (call : Call) (text sheet lent words : List ℕ) where
+module _ (call : Call) (text sheet : List ℕ) (lent : List (List ℕ)) (words : List ℕ) where
   long-same : mostBytes < length text → record { answer = refusedWith 1 0 0 0; buffer = words } ≡ readOf call text sheet lent words
   unfolding readOf
   long-same h = rw (lt-ltb mostBytes (length text) h)
@@ -366,8 +369,21 @@ module _ (call : Call) (text sheet lent words : List ℕ) where
   asked-buffer s h e = e ∙ ap (λ (o : Outcome). o .buffer) (asked-same s h)
 
 -- all that the call promises, by its answer and the words at exit
-pub promised : (call : Call) → Fits w8 (call .primary) → (text sheet lent words : List ℕ) {a : Answer} {exit : List ℕ} → a ≡ readOf call text sheet lent words .answer → exit ≡ readOf call text sheet lent words .buffer →
+pub promised : (call : Call) → Fits w8 (call .primary) → (text sheet : List ℕ) (lent : List (List ℕ)) (words : List ℕ) {a : Answer} {exit : List ℕ} → a ≡ readOf call text sheet lent words .answer → exit ≡ readOf call text sheet lent words .buffer →
     ((a ≡ readOf call text sheet lent words .answer) × (exit ≡ readOf call text sheet lent words .buffer))
     × (Holds (frontOf (a .number) text) words exit × Exact call text sheet lent (length words) a)
 promised call byte text sheet lent words e f =
     ((e, f), (read-holds call text sheet lent words e f, subst (λ (x : Answer). Exact call text sheet lent (length words) x) (sym e) (exact call (in-byte byte) text sheet lent words)))
+
+-- where no earlier rule is read with this one, the lent topics are all that count
+module _ (call : Call) (text sheet lent first earlier words : List ℕ) (none : length earlier ≡ 0) where
+  same-alone : readOf call text sheet (lentWith lent first earlier) words ≡ readOf call text sheet (lentTopics lent) words
+  same-alone = ap (λ (topics : List (List ℕ)). readOf call text sheet topics words) (lent-alone lent first earlier none)
+
+  pub alone-answer : {a : Answer} → a ≡ readOf call text sheet (lentWith lent first earlier) words .answer →
+      a ≡ readOf call text sheet (lentTopics lent) words .answer
+  alone-answer e = e ∙ ap (λ (o : Outcome). o .answer) same-alone
+
+  pub alone-buffer : {b : List ℕ} → b ≡ readOf call text sheet (lentWith lent first earlier) words .buffer →
+      b ≡ readOf call text sheet (lentTopics lent) words .buffer
+  alone-buffer e = e ∙ ap (λ (o : Outcome). o .buffer) same-alone

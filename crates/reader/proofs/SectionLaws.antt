@@ -119,7 +119,7 @@ module _ (t : ℕ → Tok) (view : View) (range : ℕ → Name) (topics : Topics
     unfolding triggerNamed toTrigger
     named-many h e = rw (is-trigger (triggerAt t view range fuel i) read w, fit-is, h, e)
 
-module _ (text : List ℕ) (t : ℕ → Tok) (view : View) (range : ℕ → Name) (lent : List ℕ) (fuel : ℕ) where
+module _ (text : List ℕ) (t : ℕ → Tok) (view : View) (range : ℕ → Name) (lent : List (List ℕ)) (fuel : ℕ) where
   abbrev form : List (List ℕ) → ℕ → Res Trigger
   form = triggerNamed t view range (topicsWith text lent) fuel
 

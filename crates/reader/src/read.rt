@@ -17,6 +17,8 @@ ghost use mathlib.Core.Bool.{true};
 ghost use Prim.Native.Nat.{_≤_};
 ghost use lib.ListN.{length};
 ghost use Rattle.text.specs.Place.{checkOf};
+ghost use Rattle.topics.specs.Topics.{lentTopics};
+ghost use Rattle.topics.specs.Ranges.{lentWith};
 ghost use Rattle.tokens.specs.Lexing.{mostBytes, leastWords};
 ghost use Rattle.tokens.specs.Buffer.{Holds, frontOf};
 ghost use Rattle.sheet.specs.Sheet.{sheetCheck};
@@ -73,25 +75,57 @@ fn with_habit(habit: Habit, settings: Settings) -> Settings
 }
 
 // The rule in the records under the shop profile, which is judged on an accepted reading: it is read twice.
-fn profiled_rule(settings: Settings, text: &[u8], words: &[u32], sheet: &[u8], lent: &[u8]) -> Rule
-    ensures { λ r. ⌜ r ≡ toRule (onAccepted (ruleIn (now (text .entry)) (now (words .entry)) (viewOf (withHabit Habit.Rule settings) (now (sheet .entry))) (now (lent .entry))) (ruleIn (now (text .entry)) (now (words .entry)) (viewOf (withHabit Habit.Shop settings) (now (sheet .entry))) (now (lent .entry)))) ⌝ }
+fn profiled_rule(
+    settings: Settings,
+    text: &[u8],
+    words: &[u32],
+    sheet: &[u8],
+    lent: &[u8],
+    first: &[u8],
+    earlier: &[u32],
+) -> Rule
+    ensures { λ r. ⌜ r ≡ toRule (onAccepted (ruleIn (now (text .entry)) (now (words .entry)) (viewOf (withHabit Habit.Rule settings) (now (sheet .entry))) (lentWith (now (lent .entry)) (now (first .entry)) (now (earlier .entry)))) (ruleIn (now (text .entry)) (now (words .entry)) (viewOf (withHabit Habit.Shop settings) (now (sheet .entry))) (lentWith (now (lent .entry)) (now (first .entry)) (now (earlier .entry))))) ⌝ }
 {
-    let full = section::rule(text, words, sheet, with_habit(Habit::Rule, settings), lent);
+    let full = section::rule(
+        text,
+        words,
+        sheet,
+        with_habit(Habit::Rule, settings),
+        lent,
+        first,
+        earlier,
+    );
     if full.accepted {
-        return section::rule(text, words, sheet, with_habit(Habit::Shop, settings), lent);
+        return section::rule(
+            text,
+            words,
+            sheet,
+            with_habit(Habit::Shop, settings),
+            lent,
+            first,
+            earlier,
+        );
     }
     full
 }
 
 // The rule in the records.
-fn rule_of(settings: Settings, text: &[u8], words: &[u32], sheet: &[u8], lent: &[u8]) -> Rule
-    ensures { λ r. ⌜ r ≡ toRule (ruleOf (now (text .entry)) (now (words .entry)) (viewOf settings (now (sheet .entry))) (now (lent .entry))) ⌝ }
+fn rule_of(
+    settings: Settings,
+    text: &[u8],
+    words: &[u32],
+    sheet: &[u8],
+    lent: &[u8],
+    first: &[u8],
+    earlier: &[u32],
+) -> Rule
+    ensures { λ r. ⌜ r ≡ toRule (ruleOf (now (text .entry)) (now (words .entry)) (viewOf settings (now (sheet .entry))) (lentWith (now (lent .entry)) (now (first .entry)) (now (earlier .entry)))) ⌝ }
 {
     let habit = settings.habit;
     match habit {
-        Habit::Rule => section::rule(text, words, sheet, settings, lent),
-        Habit::Archive => section::rule(text, words, sheet, settings, lent),
-        Habit::Shop => profiled_rule(settings, text, words, sheet, lent),
+        Habit::Rule => section::rule(text, words, sheet, settings, lent, first, earlier),
+        Habit::Archive => section::rule(text, words, sheet, settings, lent, first, earlier),
+        Habit::Shop => profiled_rule(settings, text, words, sheet, lent, first, earlier),
     }
 }
 
@@ -102,12 +136,14 @@ fn parse(
     words: &[u32],
     sheet: &[u8],
     lent: &[u8],
+    first: &[u8],
+    earlier: &[u32],
     line: u32,
     column: u32,
 ) -> Answer
-    ensures { λ r. ⌜ r ≡ answered (now (words .entry)) line column (ruleOf (now (text .entry)) (now (words .entry)) (viewOf settings (now (sheet .entry))) (now (lent .entry))) ⌝ }
+    ensures { λ r. ⌜ r ≡ answered (now (words .entry)) line column (ruleOf (now (text .entry)) (now (words .entry)) (viewOf settings (now (sheet .entry))) (lentWith (now (lent .entry)) (now (first .entry)) (now (earlier .entry)))) ⌝ }
 {
-    let rule = rule_of(settings, text, words, sheet, lent);
+    let rule = rule_of(settings, text, words, sheet, lent, first, earlier);
     let triggers = rule.triggers;
     let conditions = rule.conditions;
     if rule.accepted {
@@ -131,10 +167,12 @@ fn read_text(
     text: &[u8],
     sheet: &[u8],
     lent: &[u8],
+    first: &[u8],
+    earlier: &[u32],
     words: &mut [u32],
 ) -> Answer
     requires { ⌜ (length (now text) ≤ mostBytes) × (leastWords ≤ length (now words)) ⌝ }
-    ensures { λ r. ⌜ (r ≡ byText (now (text .entry)) (viewOf settings (now (sheet .entry))) (now (lent .entry)) (now (words .entry)) true (checkOf (now (text .entry))) .answer) × (now (words .exit) ≡ byText (now (text .entry)) (viewOf settings (now (sheet .entry))) (now (lent .entry)) (now (words .entry)) true (checkOf (now (text .entry))) .buffer) ⌝ }
+    ensures { λ r. ⌜ (r ≡ byText (now (text .entry)) (viewOf settings (now (sheet .entry))) (lentWith (now (lent .entry)) (now (first .entry)) (now (earlier .entry))) (now (words .entry)) true (checkOf (now (text .entry))) .answer) × (now (words .exit) ≡ byText (now (text .entry)) (viewOf settings (now (sheet .entry))) (lentWith (now (lent .entry)) (now (first .entry)) (now (earlier .entry))) (now (words .entry)) true (checkOf (now (text .entry))) .buffer) ⌝ }
 {
     let lexed = tokens::lexer::lex(text, words);
     match lexed {
@@ -153,6 +191,8 @@ fn read_text(
             &words[..count * tokens::record::RECORD_SIZE],
             sheet,
             lent,
+            first,
+            earlier,
             line,
             column,
         ),
@@ -171,9 +211,17 @@ fn not_own(text: &[u8]) -> Answer
 }
 
 // The call from question 3 on.
-fn read_sheet(call: Call, text: &[u8], sheet: &[u8], lent: &[u8], words: &mut [u32]) -> Answer
+fn read_sheet(
+    call: Call,
+    text: &[u8],
+    sheet: &[u8],
+    lent: &[u8],
+    first: &[u8],
+    earlier: &[u32],
+    words: &mut [u32],
+) -> Answer
     requires { ⌜ (length (now text) ≤ mostBytes) × (leastWords ≤ length (now words)) ⌝ }
-    ensures { λ r. ⌜ (r ≡ bySheet (now (text .entry)) (seen call (now (sheet .entry))) (now (lent .entry)) (now (words .entry)) (ownPrimary call (now (sheet .entry))) (sheetCheck (now (sheet .entry))) .answer) × (now (words .exit) ≡ bySheet (now (text .entry)) (seen call (now (sheet .entry))) (now (lent .entry)) (now (words .entry)) (ownPrimary call (now (sheet .entry))) (sheetCheck (now (sheet .entry))) .buffer) ⌝ }
+    ensures { λ r. ⌜ (r ≡ bySheet (now (text .entry)) (seen call (now (sheet .entry))) (lentWith (now (lent .entry)) (now (first .entry)) (now (earlier .entry))) (now (words .entry)) (ownPrimary call (now (sheet .entry))) (sheetCheck (now (sheet .entry))) .answer) × (now (words .exit) ≡ bySheet (now (text .entry)) (seen call (now (sheet .entry))) (lentWith (now (lent .entry)) (now (first .entry)) (now (earlier .entry))) (now (words .entry)) (ownPrimary call (now (sheet .entry))) (sheetCheck (now (sheet .entry))) .buffer) ⌝ }
 {
     let primary = call.primary as u32;
     let habit = call.habit;
@@ -196,6 +244,8 @@ fn read_sheet(call: Call, text: &[u8], sheet: &[u8], lent: &[u8], words: &mut [u
                     text,
                     sheet,
                     lent,
+                    first,
+                    earlier,
                     words,
                 );
             }
@@ -204,11 +254,19 @@ fn read_sheet(call: Call, text: &[u8], sheet: &[u8], lent: &[u8], words: &mut [u
     }
 }
 
-// The call of any habit.
-pub fn read_by(call: Call, text: &[u8], sheet: &[u8], lent: &[u8], words: &mut [u32]) -> Answer
-    ensures { λ r. ⌜ (r ≡ readOf call (now (text .entry)) (now (sheet .entry)) (now (lent .entry)) (now (words .entry)) .answer) × (now (words .exit) ≡ readOf call (now (text .entry)) (now (sheet .entry)) (now (lent .entry)) (now (words .entry)) .buffer) ⌝ }
+// The call of any habit, read after an earlier rule whose topics count as lent: they stand in the first text where the words `earlier` say, a start and a length for each.
+pub fn read_after(
+    call: Call,
+    text: &[u8],
+    sheet: &[u8],
+    lent: &[u8],
+    first: &[u8],
+    earlier: &[u32],
+    words: &mut [u32],
+) -> Answer
+    ensures { λ r. ⌜ (r ≡ readOf call (now (text .entry)) (now (sheet .entry)) (lentWith (now (lent .entry)) (now (first .entry)) (now (earlier .entry))) (now (words .entry)) .answer) × (now (words .exit) ≡ readOf call (now (text .entry)) (now (sheet .entry)) (lentWith (now (lent .entry)) (now (first .entry)) (now (earlier .entry))) (now (words .entry)) .buffer) ⌝ }
     ensures buffer { λ r. ⌜ Holds (frontOf (r .number) (now (text .entry))) (now (words .entry)) (now (words .exit)) ⌝ }
-    ensures reading { λ r. ⌜ Exact call (now (text .entry)) (now (sheet .entry)) (now (lent .entry)) (length (now (words .entry))) r ⌝ }
+    ensures reading { λ r. ⌜ Exact call (now (text .entry)) (now (sheet .entry)) (lentWith (now (lent .entry)) (now (first .entry)) (now (earlier .entry))) (length (now (words .entry))) r ⌝ }
 {
     if tokens::lexer::MOST_BYTES < text.len() {
         return refused(1, 0, 0, 0);
@@ -216,7 +274,17 @@ pub fn read_by(call: Call, text: &[u8], sheet: &[u8], lent: &[u8], words: &mut [
     if words.len() < tokens::lexer::LEAST_WORDS {
         return refused(2, 0, 0, 0);
     }
-    read_sheet(call, text, sheet, lent, words)
+    read_sheet(call, text, sheet, lent, first, earlier, words)
+}
+
+// The call of any habit.
+pub fn read_by(call: Call, text: &[u8], sheet: &[u8], lent: &[u8], words: &mut [u32]) -> Answer
+    ensures { λ r. ⌜ (r ≡ readOf call (now (text .entry)) (now (sheet .entry)) (lentTopics (now (lent .entry))) (now (words .entry)) .answer) × (now (words .exit) ≡ readOf call (now (text .entry)) (now (sheet .entry)) (lentTopics (now (lent .entry))) (now (words .entry)) .buffer) ⌝ }
+    ensures buffer { λ r. ⌜ Holds (frontOf (r .number) (now (text .entry))) (now (words .entry)) (now (words .exit)) ⌝ }
+    ensures reading { λ r. ⌜ Exact call (now (text .entry)) (now (sheet .entry)) (lentTopics (now (lent .entry))) (length (now (words .entry))) r ⌝ }
+{
+    let none = [0; 1];
+    read_after(call, text, sheet, lent, &text[..0], &none[..0], words)
 }
 
 // Reads a rule text with a name sheet and the lent topics of earlier rules, for a party, with its own primary adapter. The tokens' records go to the lent words. The answer, and each word at exit,
@@ -231,9 +299,9 @@ pub fn read(
     primary: u8,
     words: &mut [u32],
 ) -> Answer
-    ensures { λ r. ⌜ (r ≡ readOf (ruleCall party primary) (now (text .entry)) (now (sheet .entry)) (now (lent .entry)) (now (words .entry)) .answer) × (now (words .exit) ≡ readOf (ruleCall party primary) (now (text .entry)) (now (sheet .entry)) (now (lent .entry)) (now (words .entry)) .buffer) ⌝ }
+    ensures { λ r. ⌜ (r ≡ readOf (ruleCall party primary) (now (text .entry)) (now (sheet .entry)) (lentTopics (now (lent .entry))) (now (words .entry)) .answer) × (now (words .exit) ≡ readOf (ruleCall party primary) (now (text .entry)) (now (sheet .entry)) (lentTopics (now (lent .entry))) (now (words .entry)) .buffer) ⌝ }
     ensures buffer { λ r. ⌜ Holds (frontOf (r .number) (now (text .entry))) (now (words .entry)) (now (words .exit)) ⌝ }
-    ensures reading { λ r. ⌜ Exact (ruleCall party primary) (now (text .entry)) (now (sheet .entry)) (now (lent .entry)) (length (now (words .entry))) r ⌝ }
+    ensures reading { λ r. ⌜ Exact (ruleCall party primary) (now (text .entry)) (now (sheet .entry)) (lentTopics (now (lent .entry))) (length (now (words .entry))) r ⌝ }
 {
     read_by(
         Call {
@@ -258,9 +326,9 @@ pub fn read_archive(
     primary: u8,
     words: &mut [u32],
 ) -> Answer
-    ensures { λ r. ⌜ (r ≡ readOf (archiveCall party primary) (now (text .entry)) (now (sheet .entry)) (now (lent .entry)) (now (words .entry)) .answer) × (now (words .exit) ≡ readOf (archiveCall party primary) (now (text .entry)) (now (sheet .entry)) (now (lent .entry)) (now (words .entry)) .buffer) ⌝ }
+    ensures { λ r. ⌜ (r ≡ readOf (archiveCall party primary) (now (text .entry)) (now (sheet .entry)) (lentTopics (now (lent .entry))) (now (words .entry)) .answer) × (now (words .exit) ≡ readOf (archiveCall party primary) (now (text .entry)) (now (sheet .entry)) (lentTopics (now (lent .entry))) (now (words .entry)) .buffer) ⌝ }
     ensures buffer { λ r. ⌜ Holds (frontOf (r .number) (now (text .entry))) (now (words .entry)) (now (words .exit)) ⌝ }
-    ensures reading { λ r. ⌜ Exact (archiveCall party primary) (now (text .entry)) (now (sheet .entry)) (now (lent .entry)) (length (now (words .entry))) r ⌝ }
+    ensures reading { λ r. ⌜ Exact (archiveCall party primary) (now (text .entry)) (now (sheet .entry)) (lentTopics (now (lent .entry))) (length (now (words .entry))) r ⌝ }
 {
     read_by(
         Call {
@@ -285,10 +353,10 @@ pub fn read_shop(
     primary: u8,
     words: &mut [u32],
 ) -> Answer
-    ensures { λ r. ⌜ (r ≡ readOf (shopCall party primary) (now (text .entry)) (now (sheet .entry)) (now (lent .entry)) (now (words .entry)) .answer) × (now (words .exit) ≡ readOf (shopCall party primary) (now (text .entry)) (now (sheet .entry)) (now (lent .entry)) (now (words .entry)) .buffer) ⌝ }
+    ensures { λ r. ⌜ (r ≡ readOf (shopCall party primary) (now (text .entry)) (now (sheet .entry)) (lentTopics (now (lent .entry))) (now (words .entry)) .answer) × (now (words .exit) ≡ readOf (shopCall party primary) (now (text .entry)) (now (sheet .entry)) (lentTopics (now (lent .entry))) (now (words .entry)) .buffer) ⌝ }
     ensures buffer { λ r. ⌜ Holds (frontOf (r .number) (now (text .entry))) (now (words .entry)) (now (words .exit)) ⌝ }
-    ensures reading { λ r. ⌜ Exact (shopCall party primary) (now (text .entry)) (now (sheet .entry)) (now (lent .entry)) (length (now (words .entry))) r ⌝ }
-    ensures profile { λ r. ⌜ Profiled party primary (now (text .entry)) (now (sheet .entry)) (now (lent .entry)) (length (now (words .entry))) (readOf (ruleCall party primary) (now (text .entry)) (now (sheet .entry)) (now (lent .entry)) (now (words .entry))) (record { answer = r; buffer = now (words .exit) }) ⌝ }
+    ensures reading { λ r. ⌜ Exact (shopCall party primary) (now (text .entry)) (now (sheet .entry)) (lentTopics (now (lent .entry))) (length (now (words .entry))) r ⌝ }
+    ensures profile { λ r. ⌜ Profiled party primary (now (text .entry)) (now (sheet .entry)) (lentTopics (now (lent .entry))) (length (now (words .entry))) (readOf (ruleCall party primary) (now (text .entry)) (now (sheet .entry)) (lentTopics (now (lent .entry))) (now (words .entry))) (record { answer = r; buffer = now (words .exit) }) ⌝ }
 {
     read_by(
         Call {

@@ -30,7 +30,7 @@ ghost use Rattle.tokens.specs.Cursor.{tokens};
 ghost use Rattle.tokens.specs.Record.{capacity};
 ghost use Rattle.sheet.specs.View.{viewOf};
 ghost use Rattle.language.specs.Range.{rangeOf};
-ghost use Rattle.topics.specs.Ranges.{withTopic, nameIn, topicsIn};
+ghost use Rattle.topics.specs.Ranges.{withTopic, nameIn, topicsIn, lentWith};
 ghost use Rattle.sections.specs.Answers.{toTrigger};
 ghost use Rattle.language.specs.Topics.{topicName, topicOf};
 ghost use Rattle.language.specs.Read.{topicsWith};
@@ -104,16 +104,18 @@ fn trigger_named(
     s: &[u8],
     settings: Settings,
     lent: &[u8],
+    first: &[u8],
+    earlier: &[u32],
     named: Ranges,
 ) -> TriggerAnswer
-    ensures { λ r. ⌜ r ≡ toTrigger (triggerNamed (tokens (now (text .entry)) (now (words .entry))) (viewOf settings (now (s .entry))) (rangeOf (now (words .entry))) (topicsWith (now (text .entry)) (now (lent .entry))) (capacity (now (words .entry))) (topicsIn (now (text .entry)) named) (c .index)) ⌝ }
+    ensures { λ r. ⌜ r ≡ toTrigger (triggerNamed (tokens (now (text .entry)) (now (words .entry))) (viewOf settings (now (s .entry))) (rangeOf (now (words .entry))) (topicsWith (now (text .entry)) (lentWith (now (lent .entry)) (now (first .entry)) (now (earlier .entry)))) (capacity (now (words .entry))) (topicsIn (now (text .entry)) named) (c .index)) ⌝ }
 {
     let i = c.index;
     let one = trigger::trigger_at(c, text, words, s, settings);
     match one {
         TriggerAnswer::No(refusal) => return TriggerAnswer::No(refusal),
         TriggerAnswer::Got(x, behind) => {
-            if limit::fits_behind(lent, text, named, topic_of(x)) {
+            if limit::fits_behind(lent, first, earlier, text, named, topic_of(x)) {
                 return TriggerAnswer::Got(x, behind);
             }
             TriggerAnswer::No(tokens::cursor::refuse(66, i))
@@ -122,8 +124,17 @@ fn trigger_named(
 }
 
 // As many triggers as there are `when`s; a fifth is refused with 37. Each is written to its place in the list, which is not copied.
-fn whens(c: Cursor, text: &[u8], words: &[u32], s: &[u8], settings: Settings, lent: &[u8]) -> Whens
-    ensures { λ r. ⌜ r ≡ toWhens (repeated (tokens (now (text .entry)) (now (words .entry))) (ascii "when") 37 (triggerNamed (tokens (now (text .entry)) (now (words .entry))) (viewOf settings (now (s .entry))) (rangeOf (now (words .entry))) (topicsWith (now (text .entry)) (now (lent .entry))) (capacity (now (words .entry)))) (λ named x. named ++ topicOf (nameIn (now (text .entry))) x) [] 4 (c .index)) ⌝ }
+fn whens(
+    c: Cursor,
+    text: &[u8],
+    words: &[u32],
+    s: &[u8],
+    settings: Settings,
+    lent: &[u8],
+    first: &[u8],
+    earlier: &[u32],
+) -> Whens
+    ensures { λ r. ⌜ r ≡ toWhens (repeated (tokens (now (text .entry)) (now (words .entry))) (ascii "when") 37 (triggerNamed (tokens (now (text .entry)) (now (words .entry))) (viewOf settings (now (s .entry))) (rangeOf (now (words .entry))) (topicsWith (now (text .entry)) (lentWith (now (lent .entry)) (now (first .entry)) (now (earlier .entry)))) (capacity (now (words .entry)))) (λ named x. named ++ topicOf (nameIn (now (text .entry))) x) [] 4 (c .index)) ⌝ }
 {
     let mut list = parts::no_triggers();
     let mut named = ranges::no_ranges();
@@ -139,7 +150,17 @@ fn whens(c: Cursor, text: &[u8], words: &[u32], s: &[u8], settings: Settings, le
                 if 4 <= list.count {
                     return whens_refused(tokens::cursor::refuse(37, i));
                 }
-                let one = trigger_named(next, text, words, s, settings, lent, named);
+                let one = trigger_named(
+                    next,
+                    text,
+                    words,
+                    s,
+                    settings,
+                    lent,
+                    first,
+                    earlier,
+                    named,
+                );
                 match one {
                     TriggerAnswer::No(refusal) => {
                         return whens_refused(refusal);
@@ -165,12 +186,14 @@ pub fn when_section(
     s: &[u8],
     settings: Settings,
     lent: &[u8],
+    first: &[u8],
+    earlier: &[u32],
 ) -> Whens
-    ensures { λ r. ⌜ r ≡ toWhens (whenSection (tokens (now (text .entry)) (now (words .entry))) (viewOf settings (now (s .entry))) (rangeOf (now (words .entry))) (topicsWith (now (text .entry)) (now (lent .entry))) (capacity (now (words .entry))) (c .index)) ⌝ }
+    ensures { λ r. ⌜ r ≡ toWhens (whenSection (tokens (now (text .entry)) (now (words .entry))) (viewOf settings (now (s .entry))) (rangeOf (now (words .entry))) (topicsWith (now (text .entry)) (lentWith (now (lent .entry)) (now (first .entry)) (now (earlier .entry)))) (capacity (now (words .entry))) (c .index)) ⌝ }
 {
     let i = c.index;
     if c.peek_kw(text, words, b"when") {
-        return whens(c, text, words, s, settings, lent);
+        return whens(c, text, words, s, settings, lent, first, earlier);
     }
     whens_refused(tokens::cursor::refuse(38, i))
 }
@@ -307,10 +330,27 @@ fn rule_with(
 }
 
 // The whole rule.
-pub fn rule(text: &[u8], words: &[u32], s: &[u8], settings: Settings, lent: &[u8]) -> Rule
-    ensures { λ r. ⌜ r ≡ toRule (ruleAt (tokens (now (text .entry)) (now (words .entry))) (viewOf settings (now (s .entry))) (rangeOf (now (words .entry))) (topicsWith (now (text .entry)) (now (lent .entry))) (capacity (now (words .entry)))) ⌝ }
+pub fn rule(
+    text: &[u8],
+    words: &[u32],
+    s: &[u8],
+    settings: Settings,
+    lent: &[u8],
+    first: &[u8],
+    earlier: &[u32],
+) -> Rule
+    ensures { λ r. ⌜ r ≡ toRule (ruleAt (tokens (now (text .entry)) (now (words .entry))) (viewOf settings (now (s .entry))) (rangeOf (now (words .entry))) (topicsWith (now (text .entry)) (lentWith (now (lent .entry)) (now (first .entry)) (now (earlier .entry)))) (capacity (now (words .entry)))) ⌝ }
 {
-    let whens = when_section(Cursor::new(), text, words, s, settings, lent);
+    let whens = when_section(
+        Cursor::new(),
+        text,
+        words,
+        s,
+        settings,
+        lent,
+        first,
+        earlier,
+    );
     if whens.accepted {
         return rule_with(whens.next, text, words, s, settings, whens.list);
     }

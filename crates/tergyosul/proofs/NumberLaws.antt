@@ -71,14 +71,14 @@ unfolding parsed acceptedWith refusedWith Refuses
 parsed-known l (ok lists i) h = omega arith
 parsed-known l (no r) h = refusal-most _ h
 
-lexed-known : (text : List ℕ) (view : View) (lent : List ℕ) (whole l : Lexing) {before : List Character} → Laid text before l →
+lexed-known : (text : List ℕ) (view : View) (lent : List (List ℕ)) (whole l : Lexing) {before : List Character} → Laid text before l →
     Known (lexedFrom text view lent whole l .number)
 unfolding lexedFrom refusedWith
 lexed-known text view lent whole l (end gap t h) = parsed-known whole _ (call-refuses text _ view lent)
 lexed-known text view lent whole l (refusal gap c rest t h n) = lexical-known n
 lexed-known text view lent whole l (next gap u rest t s h k) = lexed-known text view lent whole _ k
 
-module _ (call : Call) (text sheet lent words : List ℕ) where
+module _ (call : Call) (text sheet : List ℕ) (lent : List (List ℕ)) (words : List ℕ) where
   own-known : (own : Bool) → Known (byPrimary text (seen call sheet) lent words own .answer .number)
   unfolding byPrimary refusedWith
   own-known true = lexed-known text (seen call sheet) lent (lexText text) (lexText text) (laid text)

@@ -8,6 +8,7 @@ ghost use mathlib.Core.Path.{_≡_};
 ghost use Rattle.tokens.specs.Lex.{lexAnswer, lexWords};
 ghost use Rattle.tokens.specs.Buffer.{lexNumber};
 ghost use Rattle.sheet.specs.Sheet.{lines, primaryLine};
+ghost use Rattle.topics.specs.Topics.{lentTopics};
 ghost use Rattle.language.specs.Read.{readOf, ruleCall, archiveCall, shopCall};
 ghost use Rattle.tergyosul.specs.Lexing.{fourFirst, lexFlat};
 ghost use Rattle.tergyosul.specs.Room.{noRoom, lexAnswerWords, byRoom};
@@ -74,9 +75,9 @@ fn read_by(
     words: &mut [u32],
     answer: &mut [u32],
 ) -> u32
-    ensures number { λ r. ⌜ r ≡ byRoom answerWords (now (answer .entry)) noRoom (readOf call (now (text .entry)) (now (sheet .entry)) (now (lent .entry)) (now (words .entry)) .answer .number) ⌝ }
-    ensures words { λ _. ⌜ now (words .exit) ≡ byRoom answerWords (now (answer .entry)) (now (words .entry)) (readOf call (now (text .entry)) (now (sheet .entry)) (now (lent .entry)) (now (words .entry)) .buffer) ⌝ }
-    ensures answer { λ _. ⌜ now (answer .exit) ≡ flat (now (answer .entry)) (readOf call (now (text .entry)) (now (sheet .entry)) (now (lent .entry)) (now (words .entry)) .answer) ⌝ }
+    ensures number { λ r. ⌜ r ≡ byRoom answerWords (now (answer .entry)) noRoom (readOf call (now (text .entry)) (now (sheet .entry)) (lentTopics (now (lent .entry))) (now (words .entry)) .answer .number) ⌝ }
+    ensures words { λ _. ⌜ now (words .exit) ≡ byRoom answerWords (now (answer .entry)) (now (words .entry)) (readOf call (now (text .entry)) (now (sheet .entry)) (lentTopics (now (lent .entry))) (now (words .entry)) .buffer) ⌝ }
+    ensures answer { λ _. ⌜ now (answer .exit) ≡ flat (now (answer .entry)) (readOf call (now (text .entry)) (now (sheet .entry)) (lentTopics (now (lent .entry))) (now (words .entry)) .answer) ⌝ }
 {
     if answer.len() < flat::ANSWER_WORDS {
         return NO_ROOM;
@@ -99,9 +100,9 @@ pub extern "C" fn tergyosul_read(
     words: &mut [u32],
     answer: &mut [u32],
 ) -> u32
-    ensures number { λ r. ⌜ r ≡ byRoom answerWords (now (answer .entry)) noRoom (readOf (ruleCall party primary) (now (text .entry)) (now (sheet .entry)) (now (lent .entry)) (now (words .entry)) .answer .number) ⌝ }
-    ensures words { λ _. ⌜ now (words .exit) ≡ byRoom answerWords (now (answer .entry)) (now (words .entry)) (readOf (ruleCall party primary) (now (text .entry)) (now (sheet .entry)) (now (lent .entry)) (now (words .entry)) .buffer) ⌝ }
-    ensures answer { λ _. ⌜ now (answer .exit) ≡ flat (now (answer .entry)) (readOf (ruleCall party primary) (now (text .entry)) (now (sheet .entry)) (now (lent .entry)) (now (words .entry)) .answer) ⌝ }
+    ensures number { λ r. ⌜ r ≡ byRoom answerWords (now (answer .entry)) noRoom (readOf (ruleCall party primary) (now (text .entry)) (now (sheet .entry)) (lentTopics (now (lent .entry))) (now (words .entry)) .answer .number) ⌝ }
+    ensures words { λ _. ⌜ now (words .exit) ≡ byRoom answerWords (now (answer .entry)) (now (words .entry)) (readOf (ruleCall party primary) (now (text .entry)) (now (sheet .entry)) (lentTopics (now (lent .entry))) (now (words .entry)) .buffer) ⌝ }
+    ensures answer { λ _. ⌜ now (answer .exit) ≡ flat (now (answer .entry)) (readOf (ruleCall party primary) (now (text .entry)) (now (sheet .entry)) (lentTopics (now (lent .entry))) (now (words .entry)) .answer) ⌝ }
 {
     read_by(
         Call {
@@ -128,9 +129,9 @@ pub extern "C" fn tergyosul_read_archive(
     words: &mut [u32],
     answer: &mut [u32],
 ) -> u32
-    ensures number { λ r. ⌜ r ≡ byRoom answerWords (now (answer .entry)) noRoom (readOf (archiveCall party primary) (now (text .entry)) (now (sheet .entry)) (now (lent .entry)) (now (words .entry)) .answer .number) ⌝ }
-    ensures words { λ _. ⌜ now (words .exit) ≡ byRoom answerWords (now (answer .entry)) (now (words .entry)) (readOf (archiveCall party primary) (now (text .entry)) (now (sheet .entry)) (now (lent .entry)) (now (words .entry)) .buffer) ⌝ }
-    ensures answer { λ _. ⌜ now (answer .exit) ≡ flat (now (answer .entry)) (readOf (archiveCall party primary) (now (text .entry)) (now (sheet .entry)) (now (lent .entry)) (now (words .entry)) .answer) ⌝ }
+    ensures number { λ r. ⌜ r ≡ byRoom answerWords (now (answer .entry)) noRoom (readOf (archiveCall party primary) (now (text .entry)) (now (sheet .entry)) (lentTopics (now (lent .entry))) (now (words .entry)) .answer .number) ⌝ }
+    ensures words { λ _. ⌜ now (words .exit) ≡ byRoom answerWords (now (answer .entry)) (now (words .entry)) (readOf (archiveCall party primary) (now (text .entry)) (now (sheet .entry)) (lentTopics (now (lent .entry))) (now (words .entry)) .buffer) ⌝ }
+    ensures answer { λ _. ⌜ now (answer .exit) ≡ flat (now (answer .entry)) (readOf (archiveCall party primary) (now (text .entry)) (now (sheet .entry)) (lentTopics (now (lent .entry))) (now (words .entry)) .answer) ⌝ }
 {
     read_by(
         Call {
@@ -157,9 +158,9 @@ pub extern "C" fn tergyosul_read_shop(
     words: &mut [u32],
     answer: &mut [u32],
 ) -> u32
-    ensures number { λ r. ⌜ r ≡ byRoom answerWords (now (answer .entry)) noRoom (readOf (shopCall party primary) (now (text .entry)) (now (sheet .entry)) (now (lent .entry)) (now (words .entry)) .answer .number) ⌝ }
-    ensures words { λ _. ⌜ now (words .exit) ≡ byRoom answerWords (now (answer .entry)) (now (words .entry)) (readOf (shopCall party primary) (now (text .entry)) (now (sheet .entry)) (now (lent .entry)) (now (words .entry)) .buffer) ⌝ }
-    ensures answer { λ _. ⌜ now (answer .exit) ≡ flat (now (answer .entry)) (readOf (shopCall party primary) (now (text .entry)) (now (sheet .entry)) (now (lent .entry)) (now (words .entry)) .answer) ⌝ }
+    ensures number { λ r. ⌜ r ≡ byRoom answerWords (now (answer .entry)) noRoom (readOf (shopCall party primary) (now (text .entry)) (now (sheet .entry)) (lentTopics (now (lent .entry))) (now (words .entry)) .answer .number) ⌝ }
+    ensures words { λ _. ⌜ now (words .exit) ≡ byRoom answerWords (now (answer .entry)) (now (words .entry)) (readOf (shopCall party primary) (now (text .entry)) (now (sheet .entry)) (lentTopics (now (lent .entry))) (now (words .entry)) .buffer) ⌝ }
+    ensures answer { λ _. ⌜ now (answer .exit) ≡ flat (now (answer .entry)) (readOf (shopCall party primary) (now (text .entry)) (now (sheet .entry)) (lentTopics (now (lent .entry))) (now (words .entry)) .answer) ⌝ }
 {
     read_by(
         Call {

@@ -1,7 +1,7 @@
 -- Topics in ranges, one after the other.
 use Prim.Native.Nat.{ℕ, zero, suc, _+_, _<_, _≤_}
 use mathlib.Core.Path.{_≡_, _∙_, refl, ap, sym}
-use mathlib.Core.List.{List, [], _∷_, _++_, append-nil}
+use mathlib.Core.List.{List, [], _∷_, _++_, map, append-nil, append-assoc}
 use mathlib.Core.Bool.{Bool, true, false, not}
 use native.Mathlib.Omega.{arith}
 use native.Mathlib.Decide.{decLe}
@@ -13,14 +13,14 @@ use borrow.Author.Tests.{lt-ltb, ltb-true, ltb-false, not-true, not-false}
 use Rattle.text.specs.Part.{partOf, sameBytes}
 use Rattle.text.proofs.Tests.{picked}
 use Rattle.text.proofs.PartLaws.{same-eq}
-use Rattle.topics.specs.Topics.{has, different, mostTopics}
-use Rattle.topics.specs.Ranges.{noRange, noRanges, withRange, withName, withTopic, topicBy, rangeIn, nameIn, firstIn, inUse, topicsIn}
+use Rattle.topics.specs.Topics.{has, different, mostTopics, lentTopics}
+use Rattle.topics.specs.Ranges.{noRange, noRanges, withRange, withName, withTopic, topicBy, rangeIn, nameIn, firstIn, inUse, topicsIn, rangesFrom, rangesOf, rangeWords, topicsAt, lentWith}
 use Rattle.model.specs.declared.Name.{Name}
 use Rattle.topics.specs.declared.ranges.Range.{Range}
 use Rattle.topics.specs.declared.ranges.Ranges.{Ranges}
 use Rattle.topics.specs.declared.ranges.Topic.{Topic}
 use Rattle.topics.specs.declared.ranges.Topic.the-variants.{Absent, Is}
-use Rattle.topics.proofs.DifferentLaws.{has-here, has-left, has-right, has-append, new-last, old-last}
+use Rattle.topics.proofs.DifferentLaws.{has-here, has-left, has-right, has-append, inserted, new-first, old-first}
 
 -- at most eight are in use
 pub most-used : (ranges : Ranges) {n : ℕ} → n ≡ inUse ranges → n ≤ mostTopics
@@ -63,13 +63,17 @@ module _ (s : List ℕ) (ranges : Ranges) where
       unfolding has
       passed o h = rw (first-on, has-append topic (firstIn s ranges i) (p ∷ []), o, ← said, h)
 
-    -- and how many different ones there are with it
-    module _ {r : Bool} (said : r ≡ has p (firstIn s ranges i)) {count : ℕ} (counted : count ≡ different (firstIn s ranges i)) where
-      pub one-different : {more : ℕ} → more ≡ count + 1 → not r ≡ true → more ≡ different (firstIn s ranges (i + 1))
-      one-different e h = e ∙ rw (counted, first-on) (sym (new-last p (firstIn s ranges i) (sym said ∙ not-true r h)))
+    -- and how many different ones there are with it, besides others
+    module _ (others : List (List ℕ)) {r : Bool} (said : r ≡ has p (firstIn s ranges i ++ others)) {count : ℕ}
+        (counted : count ≡ different (firstIn s ranges i ++ others)) where
+      beside : firstIn s ranges (i + 1) ++ others ≡ firstIn s ranges i ++ p ∷ others
+      beside = rw (first-on, append-assoc)
 
-      pub none-different : {more : ℕ} → more ≡ count → not r ≡ false → more ≡ different (firstIn s ranges (i + 1))
-      none-different e h = e ∙ rw (counted, first-on) (sym (old-last p (firstIn s ranges i) (sym said ∙ not-false r h)))
+      pub one-different : {more : ℕ} → more ≡ count + 1 → not r ≡ true → more ≡ different (firstIn s ranges (i + 1) ++ others)
+      one-different e h = e ∙ rw (counted, beside, inserted (firstIn s ranges i) others p) (sym (new-first p _ (sym said ∙ not-true r h)))
+
+      pub none-different : {more : ℕ} → more ≡ count → not r ≡ false → more ≡ different (firstIn s ranges (i + 1) ++ others)
+      none-different e h = e ∙ rw (counted, beside, inserted (firstIn s ranges i) others p) (sym (old-first p _ (sym said ∙ not-false r h)))
 
 -- a range set behind the first n leaves those as they are
 kept-first : (s : List ℕ) (ranges : Ranges) (i count : ℕ) (range : Range) (n : ℕ) → n ≤ i →
@@ -146,3 +150,22 @@ pub topic-few : (written : Name → List ℕ) (topics : List (List ℕ)) (x : To
 unfolding topicBy
 topic-few written topics Absent = rw append-nil (omega arith)
 topic-few written topics (Is name) = rw length-append (omega arith)
+
+-- names whose ranges words give: their topics stand behind those that stand already
+pub words-stand : (s : List ℕ) {ranges : Ranges} {topics : List (List ℕ)} → Stand s ranges topics → (names : List Name) →
+    length topics + length names ≤ mostTopics → Stand s (rangesFrom ranges (rangeWords names)) (topics ++ map (nameIn s) names)
+unfolding rangesFrom rangeWords
+words-stand s g [] room = rw append-nil g
+words-stand s {topics = topics} g (n ∷ ns) room =
+    rw (append-assoc) at
+    (words-stand s (name-stands s g (omega arith) n) ns (omega (arith, length-append topics (nameIn s n ∷ []))))
+
+pub topics-at : (s : List ℕ) (names : List Name) → length names ≤ mostTopics → topicsAt s (rangeWords names) ≡ map (nameIn s) names
+unfolding topicsAt rangesOf
+topics-at s names room = words-stand s (none-stand s) names (omega arith) .are
+
+-- without earlier ones, those that are lent are all that count
+pub lent-alone : (lent s : List ℕ) (words : List ℕ) → length words ≡ 0 → lentWith lent s words ≡ lentTopics lent
+unfolding rangeWords
+lent-alone lent s [] e = rw (topics-at s [] (omega arith), append-nil)
+lent-alone lent s (x ∷ words) e = absurd (omega arith)

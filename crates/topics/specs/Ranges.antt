@@ -5,7 +5,7 @@ use lib.ListN.{getD, set, replicate}
 use lib.Dec.{ltb}
 use Rattle.text.specs.Choice.{pick}
 use Rattle.text.specs.Part.{partOf}
-use Rattle.topics.specs.Topics.{mostTopics}
+use Rattle.topics.specs.Topics.{mostTopics, lentTopics}
 use Rattle.model.specs.declared.Name.{Name}
 use Rattle.topics.specs.declared.ranges.Range.{Range}
 use Rattle.topics.specs.declared.ranges.Ranges.{Ranges}
@@ -35,6 +35,20 @@ unfoldable pub withTopic : Ranges → Topic → Ranges
 withTopic ranges Absent = ranges
 withTopic ranges (Is name) = withName ranges name
 
+-- ranges given as words, a start and a length for each; those past eight, and a start alone, are not looked at
+unfoldable pub rangesFrom : Ranges → List ℕ → Ranges
+rangesFrom ranges [] = ranges
+rangesFrom ranges (start ∷ []) = ranges
+rangesFrom ranges (start ∷ size ∷ words) = rangesFrom (withName ranges (record { start = start; length = size })) words
+
+unfoldable pub rangesOf : List ℕ → Ranges
+rangesOf words = rangesFrom noRanges words
+
+-- the words that give the ranges of names
+unfoldable pub rangeWords : List Name → List ℕ
+rangeWords [] = []
+rangeWords (n ∷ ns) = n .start ∷ n .length ∷ rangeWords ns
+
 -- a topic's bytes, if there is one; written gives those of a name
 unfoldable pub topicBy : (Name → List ℕ) → Topic → List (List ℕ)
 topicBy written Absent = []
@@ -58,3 +72,12 @@ inUse ranges = pick (ltb (ranges .count) mostTopics) (ranges .count) mostTopics
 
 unfoldable pub topicsIn : List ℕ → Ranges → List (List ℕ)
 topicsIn s ranges = firstIn s ranges (inUse ranges)
+
+-- the topics of an earlier rule, which stand in its text in the ranges that these words give
+unfoldable pub topicsAt : List ℕ → List ℕ → List (List ℕ)
+topicsAt first words = topicsIn first (rangesOf words)
+
+-- "The caller lends the topics of earlier rules", and, in joining, "the first text's topics count as earlier for the second" (document 02, §12): what counts
+-- as lent
+abbrev pub lentWith : List ℕ → List ℕ → List ℕ → List (List ℕ)
+lentWith lent first words = lentTopics lent ++ topicsAt first words

@@ -2,9 +2,10 @@
 use model::Name;
 use text::part;
 ghost use mathlib.Core.Path.{_≡_};
-ghost use Prim.Native.Nat.{_≤_};
+ghost use mathlib.Core.List.{_++_};
+ghost use Prim.Native.Nat.{_≤_, _+_};
 ghost use Rattle.topics.specs.Topics.{mostTopics, has, different};
-ghost use Rattle.topics.specs.Ranges.{noRanges, withRange, withName, withTopic, inUse, firstIn, topicsIn};
+ghost use Rattle.topics.specs.Ranges.{noRanges, withRange, rangesOf, withName, withTopic, inUse, firstIn, topicsIn};
 
 // As many different topics as may stand, and no more have to be kept.
 pub const MAX_TOPICS: usize = 8;
@@ -59,6 +60,23 @@ pub fn with_name(ranges: Ranges, name: Name) -> Ranges
     with_range(ranges, start, end)
 }
 
+// The ranges that words give, a start and a length for each.
+pub fn ranges_of(words: &[u32]) -> Ranges
+    ensures { λ r. ⌜ r ≡ rangesOf (now (words .entry)) ⌝ }
+{
+    let mut ranges = no_ranges();
+    let mut i: usize = 1;
+    while i < words.len() {
+        let name = Name {
+            start: words[i - 1],
+            length: words[i],
+        };
+        ranges = with_name(ranges, name);
+        i += 2;
+    }
+    ranges
+}
+
 // The topics with one more, if there is one.
 pub fn with_topic(ranges: Ranges, topic: Topic) -> Ranges
     ensures { λ r. ⌜ r ≡ withTopic ranges topic ⌝ }
@@ -102,20 +120,48 @@ pub fn holds(s: &[u8], ranges: Ranges, topic: &[u8]) -> bool
     among_first(s, ranges, used(ranges), topic)
 }
 
-// How many different topics stand in the ranges.
-pub fn different_in(s: &[u8], ranges: Ranges) -> usize
-    ensures { λ r. ⌜ r ≡ different (topicsIn (now (s .entry)) ranges) ⌝ }
-    ensures { λ r. ⌜ r ≤ mostTopics ⌝ }
+// Does the topic stand in one of the first n ranges of s, or in one of those of t?
+fn holds_first(s: &[u8], ranges: Ranges, n: usize, t: &[u8], others: Ranges, topic: &[u8]) -> bool
+    requires { ⌜ n ≤ mostTopics ⌝ }
+    ensures { λ r. ⌜ r ≡ has (now (topic .entry)) (firstIn (now (s .entry)) ranges n ++ topicsIn (now (t .entry)) others) ⌝ }
+{
+    if among_first(s, ranges, n, topic) {
+        return true;
+    }
+    holds(t, others, topic)
+}
+
+// Does the topic stand in one of the ranges of s, or in one of those of t?
+pub fn holds_in_both(s: &[u8], ranges: Ranges, t: &[u8], others: Ranges, topic: &[u8]) -> bool
+    ensures { λ r. ⌜ r ≡ has (now (topic .entry)) (topicsIn (now (s .entry)) ranges ++ topicsIn (now (t .entry)) others) ⌝ }
+{
+    holds_first(s, ranges, used(ranges), t, others, topic)
+}
+
+// How many different topics stand in the ranges of s and in those of t, of which `before` are in t.
+fn different_beside(s: &[u8], ranges: Ranges, t: &[u8], others: Ranges, before: usize) -> usize
+    requires { ⌜ (before ≡ different (topicsIn (now t) others)) × (before ≤ mostTopics) ⌝ }
+    ensures { λ r. ⌜ r ≡ different (topicsIn (now (s .entry)) ranges ++ topicsIn (now (t .entry)) others) ⌝ }
+    ensures { λ r. ⌜ r ≤ before + mostTopics ⌝ }
 {
     let n = used(ranges);
-    let mut count: usize = 0;
+    let mut count = before;
     let mut i: usize = 0;
     while i < n {
         let range = ranges.rows[i];
-        if !among_first(s, ranges, i, part::part(s, range.start, range.end)) {
+        let topic = part::part(s, range.start, range.end);
+        if !holds_first(s, ranges, i, t, others, topic) {
             count += 1;
         }
         i += 1;
     }
     count
+}
+
+// How many different topics stand in the ranges of s and in those of t.
+pub fn different_in_both(s: &[u8], ranges: Ranges, t: &[u8], others: Ranges) -> usize
+    ensures { λ r. ⌜ r ≡ different (topicsIn (now (s .entry)) ranges ++ topicsIn (now (t .entry)) others) ⌝ }
+{
+    let before = different_beside(t, others, t, no_ranges(), 0);
+    different_beside(s, ranges, t, others, before)
 }

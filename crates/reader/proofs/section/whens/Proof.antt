@@ -3,20 +3,22 @@ use Prim.Native.Nat.{_-_}
 use Rattle.tokens.specs.Cursor.{tokens}
 use Rattle.tokens.specs.Record.{capacity}
 use Rattle.sheet.specs.View.{viewOf}
+use Rattle.topics.specs.Ranges.{lentWith}
 use Rattle.language.specs.Range.{rangeOf}
 use Rattle.reader.proofs.SectionLaws.{Whens-loop, whole-of, whens-begin, whens-end, whens-full, whens-stop, whens-put}
 use Rattle.reader.proofs.section.whens.Statement.{statement}
 use Rattle.reader.proofs.section.whens.Tie as tie
 
 abbrev Inv-loop : tie.InvT-loop
-Inv-loop text words s settings lent list₀ named₀ p₀ word list named p =
+Inv-loop text words s settings lent first earlier list₀ named₀ p₀ word list named p =
     let t = tokens text words in
     let view = viewOf settings s in
-    Whens-loop text t view (rangeOf words) lent (capacity words)
-    (whole-of text t view (rangeOf words) lent (capacity words) (p₀ .index)) list named (p .index)
+    let topics = lentWith lent first earlier in
+    Whens-loop text t view (rangeOf words) topics (capacity words)
+    (whole-of text t view (rangeOf words) topics (capacity words) (p₀ .index)) list named (p .index)
 
 abbrev μ-loop : tie.MeasureT-loop
-μ-loop text words s settings lent list₀ named₀ p₀ word list named p = 4 - list .count
+μ-loop text words s settings lent first earlier list₀ named₀ p₀ word list named p = 4 - list .count
 
 pub whens-spec : {M : Type 1} → statement M
 whens-spec =
