@@ -48,6 +48,8 @@ enum tergyosul_record {
  *
  *   row 0:   number, line, column, detail, count of triggers, count of conditions
  *            An accepted text has four zeros and the counts; a refused one has the refusal and no entries.
+ *            Of tergyosul_join then, from TERGYOSUL_WHICH on: the text that is refused, the text of each of the four
+ *            triggers, the text of the conditions.
  *   entries: the kind, from the tables below, then the words that stand beside it. The rows of entries that are not in
  *            use are 0.
  *
@@ -79,6 +81,18 @@ enum tergyosul_record {
 #define TERGYOSUL_ROW 12
 #define TERGYOSUL_ANSWER_WORDS 108
 #define TERGYOSUL_NO_TYPE 4294967295u
+
+/*
+ * Where in row 0 an answer of tergyosul_join says which text it speaks of: TERGYOSUL_FIRST, TERGYOSUL_SECOND, or 0.
+ * The other calls leave these words 0.
+ */
+enum tergyosul_origin {
+    TERGYOSUL_WHICH = 6,           /* the text that is refused; 0 for 51 and 52, and where none is */
+    TERGYOSUL_TRIGGERS_FROM = 7,   /* to 10: the text of the trigger in rows 1 to 4; 0 for a row that is not in use */
+    TERGYOSUL_CONDITIONS_FROM = 11 /* the text of all conditions, TERGYOSUL_FIRST; 0 where there are none */
+};
+#define TERGYOSUL_FIRST 1
+#define TERGYOSUL_SECOND 2
 
 /* The length of an answer of tergyosul_lex: number, line, column, count of the tokens. */
 #define TERGYOSUL_LEX_WORDS 4
@@ -277,6 +291,33 @@ uint32_t tergyosul_read_shop(const uint8_t *text, size_t text_length,
                              uint8_t party, uint8_t primary,
                              uint32_t *words, size_t words_length,
                              uint32_t *answer, size_t answer_length);
+
+/*
+ * Reads two rule texts with one name sheet, each as tergyosul_read does, and joins them: the first's triggers, then those of
+ * the second that are not yet there, repeats dropped throughout, and the first's conditions. Two entries are the same if
+ * they are so word for word, but for names and other strings, which are compared by their bytes, each in its own text; so
+ * `every 1h` and `every 60m` are the same. Row 0 says which text each entry is taken from, where its names stand. The topics
+ * that the first text names count as earlier ones for the second.
+ *
+ * The result is 0, or the number of the refusal, or TERGYOSUL_NO_ROOM. What tergyosul_read refuses of the first text is
+ * refused first, with TERGYOSUL_FIRST in the word TERGYOSUL_WHICH; then what it refuses of the second, with
+ * TERGYOSUL_SECOND. Then, with 0 in that word, both at 0:0 and without entries:
+ *
+ *   51   the conditions of the two differ, in entries or order; also where only one text has any
+ *   52   more than four triggers are left
+ *
+ * words get the records of the first text's tokens and others those of the second's, each TERGYOSUL_TOKEN_WORDS long at
+ * least. If the first text is refused, others are left as they are, and with refusals 1 to 4 and 53 of a text so are its
+ * words; with 51 and 52 both have all their records. The two arrays are apart from each other; the texts may be the same.
+ */
+uint32_t tergyosul_join(const uint8_t *first, size_t first_length,
+                        const uint8_t *second, size_t second_length,
+                        const uint8_t *sheet, size_t sheet_length,
+                        const uint8_t *topics, size_t topics_length,
+                        uint8_t party, uint8_t primary,
+                        uint32_t *words, size_t words_length,
+                        uint32_t *others, size_t others_length,
+                        uint32_t *answer, size_t answer_length);
 
 /*
  * The sheet's own primary adapter, which its first line names: 0 to 255, and 0 where it names none. A call that is to go

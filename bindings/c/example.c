@@ -1,7 +1,8 @@
 /*
- * Reads a rule with its name sheet and says what it has.
+ * Reads a rule with its name sheet and says what it has, or joins two rules.
  *
  *   example [--shop] RULE SHEET [TOPICS] [PARTY PRIMARY]
+ *   example --join RULE RULE SHEET [TOPICS] [PARTY PRIMARY]
  *
  * under the shop profile, or else as any rule, with the topics of earlier rules, one a line, or else with none, and for a
  * party with its own primary adapter, or else for party 0 with the sheet's.
@@ -17,10 +18,16 @@
 #define ROOM 65536
 
 static uint8_t text[ROOM];
+static uint8_t second[ROOM];
 static uint8_t sheet[ROOM];
 static uint8_t topics[ROOM];
 static uint32_t words[TERGYOSUL_TOKEN_WORDS];
+static uint32_t others[TERGYOSUL_TOKEN_WORDS];
 static uint32_t answer[TERGYOSUL_ANSWER_WORDS];
+
+/* The lengths of what is loaded, and whose call it is. */
+static size_t text_length, second_length, sheet_length, topics_length;
+static uint8_t party, primary;
 
 /* The kinds by their numbers. The proved library gives none outside these tables. */
 static const char *const triggers[] = {
@@ -82,12 +89,21 @@ static const char *either(uint32_t code, const char *first, const char *second)
     return code == 1 ? first : second;
 }
 
-/* A NAME: a range of the text's bytes. */
-static void put_name(const uint32_t *name)
+/* A NAME: a range of the bytes of the text that the entry is taken from. */
+static void put_name(uint32_t from, const uint32_t *name)
 {
     putchar('"');
-    fwrite(text + name[0], 1, name[1], stdout);
+    fwrite((from == TERGYOSUL_SECOND ? second : text) + name[0], 1, name[1], stdout);
     putchar('"');
+}
+
+/* The text that an entry of two joined rules is taken from; nothing for a rule by itself. */
+static void put_from(uint32_t from)
+{
+    if (from != 0) {
+        printf(", from the %s rule", either(from, "first", "second"));
+    }
+    putchar('\n');
 }
 
 /* Minutes since midnight. */
@@ -157,7 +173,7 @@ static void put_words(const uint32_t *row)
     }
 }
 
-static void put_trigger(const uint32_t *row)
+static void put_trigger(uint32_t from, const uint32_t *row)
 {
     printf("trigger, %s: ", triggers[row[0]]);
     switch (row[0]) {
@@ -187,7 +203,7 @@ static void put_trigger(const uint32_t *row)
     case TERGYOSUL_TIMER_FIRES:
     case TERGYOSUL_RULE_FAILS:
     case TERGYOSUL_MQTT_MESSAGE:
-        put_name(row + 1);
+        put_name(from, row + 1);
         break;
     case TERGYOSUL_CONTROLLER_STARTS:
     case TERGYOSUL_CONTROLLER_BECOMES_ACTIVE:
@@ -198,10 +214,10 @@ static void put_trigger(const uint32_t *row)
         printf("words");
         put_words(row);
     }
-    putchar('\n');
+    put_from(from);
 }
 
-static void put_condition(const uint32_t *row)
+static void put_condition(uint32_t from, const uint32_t *row)
 {
     printf("condition, %s: ", conditions[row[0]]);
     switch (row[0]) {
@@ -226,10 +242,10 @@ static void put_condition(const uint32_t *row)
         break;
     case TERGYOSUL_IF_RULE_ENABLED:
     case TERGYOSUL_IF_TIMER_RUNNING:
-        put_name(row + 1);
+        put_name(from, row + 1);
         break;
     case TERGYOSUL_IF_LAST_FIRED_OLDER_THAN:
-        put_name(row + 1);
+        put_name(from, row + 1);
         printf(", %lu ms", (unsigned long)row[3]);
         break;
     case TERGYOSUL_IF_CONTROLLER_ACTIVE:
@@ -242,16 +258,16 @@ static void put_condition(const uint32_t *row)
         printf("words");
         put_words(row);
     }
-    putchar('\n');
+    put_from(from);
 }
 
-/* How many tokens the rule has, and where the last one stands: the records end at the first whose kind is still 0. */
-static void put_tokens(void)
+/* How many tokens a rule has, and where the last one stands: the records end at the first whose kind is still 0. */
+static void put_tokens(const uint32_t *records)
 {
     uint32_t count = 0, place = 0;
 
     while (count < TERGYOSUL_TOKEN_WORDS / TERGYOSUL_RECORD) {
-        const uint32_t *record = words + TERGYOSUL_RECORD * count;
+        const uint32_t *record = records + TERGYOSUL_RECORD * count;
 
         if (record[TERGYOSUL_TOKEN_KIND] == 0) {
             break;
@@ -263,50 +279,82 @@ static void put_tokens(void)
            (unsigned long)TERGYOSUL_COLUMN(place));
 }
 
+/* The refusal, with the rule of two that is refused, if it is one of them alone. */
+static void put_refusal(void)
+{
+    if (answer[TERGYOSUL_WHICH] != 0) {
+        printf("the %s rule is ", either(answer[TERGYOSUL_WHICH], "first", "second"));
+    }
+    printf("refused: number %lu, line %lu, column %lu, detail %lu\n", (unsigned long)answer[0], (unsigned long)answer[1],
+           (unsigned long)answer[2], (unsigned long)answer[3]);
+}
+
+static void put_entries(void)
+{
+    uint32_t i;
+
+    printf("accepted: triggers %lu, conditions %lu\n", (unsigned long)answer[4], (unsigned long)answer[5]);
+    for (i = 0; i < answer[4]; i++) {
+        put_trigger(answer[TERGYOSUL_TRIGGERS_FROM + i], answer + TERGYOSUL_ROW * (1 + i));
+    }
+    for (i = 0; i < answer[5]; i++) {
+        put_condition(answer[TERGYOSUL_CONDITIONS_FROM], answer + TERGYOSUL_ROW * (5 + i));
+    }
+}
+
+static uint32_t join_rules(void)
+{
+    return tergyosul_join(text, text_length, second, second_length, sheet, sheet_length, topics, topics_length, party,
+                          primary, words, TERGYOSUL_TOKEN_WORDS, others, TERGYOSUL_TOKEN_WORDS, answer,
+                          TERGYOSUL_ANSWER_WORDS);
+}
+
+static uint32_t read_rule(int is_shop)
+{
+    return (is_shop ? tergyosul_read_shop : tergyosul_read)(text, text_length, sheet, sheet_length, topics, topics_length,
+                                                            party, primary, words, TERGYOSUL_TOKEN_WORDS, answer,
+                                                            TERGYOSUL_ANSWER_WORDS);
+}
+
 int main(int count, char **arguments)
 {
-    size_t text_length, sheet_length, topics_length = 0;
-    uint32_t number, i;
-    uint8_t party = 0, primary = 0;
     const int is_shop = count > 1 && strcmp(arguments[1], "--shop") == 0;
+    const int is_join = count > 1 && strcmp(arguments[1], "--join") == 0;
     int has_party, has_topics;
+    uint32_t number;
 
-    /* from here on the option is not counted */
-    count -= is_shop;
-    arguments += is_shop;
+    /* from here on the option and the second rule are not counted */
+    count -= is_shop + 2 * is_join;
+    arguments += is_shop + 2 * is_join;
     has_party = count >= 5;
     has_topics = count == 4 || count == 6;
     if (count < 3 || count > 6 ||
         (has_party && (!byte_of(arguments[count - 2], &party) || !byte_of(arguments[count - 1], &primary)))) {
-        fprintf(stderr, "usage: example [--shop] RULE SHEET [TOPICS] [PARTY PRIMARY]\n");
+        fprintf(stderr, "usage: example [--shop] RULE SHEET [TOPICS] [PARTY PRIMARY]\n"
+                        "       example --join RULE RULE SHEET [TOPICS] [PARTY PRIMARY]\n");
         return 2;
     }
-    if (!load(arguments[1], text, &text_length) || !load(arguments[2], sheet, &sheet_length) ||
+    if (!load(arguments[is_join ? 0 : 1], text, &text_length) ||
+        (is_join && !load(arguments[1], second, &second_length)) || !load(arguments[2], sheet, &sheet_length) ||
         (has_topics && !load(arguments[3], topics, &topics_length))) {
         return 2;
     }
     if (!has_party) {
         primary = (uint8_t)tergyosul_sheet_primary(sheet, sheet_length);
     }
-    number = (is_shop ? tergyosul_read_shop : tergyosul_read)(text, text_length, sheet, sheet_length, topics, topics_length,
-                                                              party, primary, words, TERGYOSUL_TOKEN_WORDS, answer,
-                                                              TERGYOSUL_ANSWER_WORDS);
+    number = is_join ? join_rules() : read_rule(is_shop);
     if (number == TERGYOSUL_NO_ROOM) { /* not with an array of this length; answer was not written */
         fprintf(stderr, "there is no room for the answer\n");
         return 2;
     }
     if (number != 0) {
-        printf("refused: number %lu, line %lu, column %lu, detail %lu\n", (unsigned long)answer[0],
-               (unsigned long)answer[1], (unsigned long)answer[2], (unsigned long)answer[3]);
+        put_refusal();
         return 1;
     }
-    printf("accepted: triggers %lu, conditions %lu\n", (unsigned long)answer[4], (unsigned long)answer[5]);
-    for (i = 0; i < answer[4]; i++) {
-        put_trigger(answer + TERGYOSUL_ROW * (1 + i));
+    put_entries();
+    put_tokens(words);
+    if (is_join) {
+        put_tokens(others);
     }
-    for (i = 0; i < answer[5]; i++) {
-        put_condition(answer + TERGYOSUL_ROW * (5 + i));
-    }
-    put_tokens();
     return 0;
 }

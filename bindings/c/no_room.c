@@ -8,6 +8,7 @@
 #define BEFORE 7u
 
 static uint32_t words[TERGYOSUL_TOKEN_WORDS];
+static uint32_t others[TERGYOSUL_TOKEN_WORDS];
 static uint32_t answer[TERGYOSUL_ANSWER_WORDS];
 
 static void fill(uint32_t *array, size_t length)
@@ -36,9 +37,10 @@ int main(void)
     static const uint8_t text[] = "when http trigger";
     static const uint8_t sheet[] = "primary,0";
     const size_t text_length = sizeof text - 1, sheet_length = sizeof sheet - 1;
-    uint32_t read, archive, shop, lexed, chain;
+    uint32_t read, archive, shop, join, lexed, chain;
 
     fill(words, TERGYOSUL_TOKEN_WORDS);
+    fill(others, TERGYOSUL_TOKEN_WORDS);
     fill(answer, TERGYOSUL_ANSWER_WORDS);
     read = tergyosul_read(text, text_length, sheet, sheet_length, text, 0, 0, 0, words, TERGYOSUL_TOKEN_WORDS, answer,
                           TERGYOSUL_ANSWER_WORDS - 1);
@@ -46,15 +48,17 @@ int main(void)
                                      TERGYOSUL_TOKEN_WORDS, answer, TERGYOSUL_ANSWER_WORDS - 1);
     shop = tergyosul_read_shop(text, text_length, sheet, sheet_length, text, 0, 0, 0, words, TERGYOSUL_TOKEN_WORDS,
                                answer, TERGYOSUL_ANSWER_WORDS - 1);
+    join = tergyosul_join(text, text_length, text, text_length, sheet, sheet_length, text, 0, 0, 0, words,
+                          TERGYOSUL_TOKEN_WORDS, others, TERGYOSUL_TOKEN_WORDS, answer, TERGYOSUL_ANSWER_WORDS - 1);
     lexed = tergyosul_lex(text, text_length, words, TERGYOSUL_TOKEN_WORDS, answer, TERGYOSUL_LEX_WORDS - 1);
     chain = tergyosul_next_chain(text, 0, answer, TERGYOSUL_CHAIN_WORDS - 1);
     if (read != TERGYOSUL_NO_ROOM || archive != TERGYOSUL_NO_ROOM || shop != TERGYOSUL_NO_ROOM ||
-        lexed != TERGYOSUL_NO_ROOM ||
-        chain != TERGYOSUL_NO_ROOM) {
+        join != TERGYOSUL_NO_ROOM || lexed != TERGYOSUL_NO_ROOM || chain != TERGYOSUL_NO_ROOM) {
         fprintf(stderr, "an answer without room is not told\n");
         return 1;
     }
-    if (!is_filled(words, TERGYOSUL_TOKEN_WORDS) || !is_filled(answer, TERGYOSUL_ANSWER_WORDS)) {
+    if (!is_filled(words, TERGYOSUL_TOKEN_WORDS) || !is_filled(others, TERGYOSUL_TOKEN_WORDS) ||
+        !is_filled(answer, TERGYOSUL_ANSWER_WORDS)) {
         fprintf(stderr, "something was written without room for the answer\n");
         return 1;
     }
@@ -64,8 +68,10 @@ int main(void)
                                      TERGYOSUL_TOKEN_WORDS, answer, TERGYOSUL_ANSWER_WORDS);
     shop = tergyosul_read_shop(text, text_length, sheet, sheet_length, text, 0, 0, 0, words, TERGYOSUL_TOKEN_WORDS,
                                answer, TERGYOSUL_ANSWER_WORDS);
+    join = tergyosul_join(text, text_length, text, text_length, sheet, sheet_length, text, 0, 0, 0, words,
+                          TERGYOSUL_TOKEN_WORDS, others, TERGYOSUL_TOKEN_WORDS, answer, TERGYOSUL_ANSWER_WORDS);
     lexed = tergyosul_lex(text, text_length, words, TERGYOSUL_TOKEN_WORDS, answer, TERGYOSUL_LEX_WORDS);
-    if (read != 0 || archive != 0 || shop != 0 || lexed != 0 || answer[3] != 3 ||
+    if (read != 0 || archive != 0 || shop != 0 || join != 0 || lexed != 0 || answer[3] != 3 ||
         answer[TERGYOSUL_ROW] != TERGYOSUL_HTTP_TRIGGER) {
         fprintf(stderr, "an answer that just has room is not given\n");
         return 1;

@@ -1,4 +1,4 @@
-//! The five calls of the C library, and all that is unsafe in this crate.
+//! The calls of the C library, and all that is unsafe in this crate.
 //!
 //! `include/tergyosul.h` asks four things of a caller. Each holds for every call from here, because the pointers and lengths
 //! are those of slices that are borrowed while the call runs:
@@ -7,8 +7,8 @@
 //! - Each points to as many elements of its type as the length says. `usize` is C's `size_t`, `u8` and `u32` are its
 //!   `uint8_t` and `uint32_t`, and a slice's pointer is aligned. A party and an adapter are a `u8`, so neither is cut.
 //! - The elements were written before: those of a slice are initialised. The library writes whole words, so they stay so.
-//! - An array that is written is apart from all the others: `words` and `answer` are borrowed mutably, so neither overlaps
-//!   the other, the text, the sheet or the topics. These, which are only read, may be the same bytes.
+//! - An array that is written is apart from all the others: `words`, `others` and `answer` are borrowed mutably, so none
+//!   overlaps another, a text, the sheet or the topics. These, which are only read, may be the same bytes.
 //!
 //! The library has no state, so it keeps no pointer after it returns. That it stays within the slices and returns from every
 //! call is proved. The declarations below are the header's.
@@ -57,6 +57,25 @@ extern "C" {
         primary: u8,
         words: *mut u32,
         words_length: usize,
+        answer: *mut u32,
+        answer_length: usize,
+    ) -> u32;
+
+    fn tergyosul_join(
+        first: *const u8,
+        first_length: usize,
+        second: *const u8,
+        second_length: usize,
+        sheet: *const u8,
+        sheet_length: usize,
+        topics: *const u8,
+        topics_length: usize,
+        party: u8,
+        primary: u8,
+        words: *mut u32,
+        words_length: usize,
+        others: *mut u32,
+        others_length: usize,
         answer: *mut u32,
         answer_length: usize,
     ) -> u32;
@@ -132,6 +151,36 @@ pub fn read_shop(text: &[u8], sheet: &[u8], call: Call<'_>, words: &mut [u32], a
             call.party.primary,
             words.as_mut_ptr(),
             words.len(),
+            answer.as_mut_ptr(),
+            answer.len(),
+        )
+    }
+}
+
+pub fn join(
+    [first, second]: [&[u8]; 2],
+    sheet: &[u8],
+    call: Call<'_>,
+    [words, others]: [&mut [u32]; 2],
+    answer: &mut [u32],
+) -> u32 {
+    // SAFETY: as above: seven slices that are borrowed for the call, the three mutable ones apart from all others.
+    unsafe {
+        tergyosul_join(
+            first.as_ptr(),
+            first.len(),
+            second.as_ptr(),
+            second.len(),
+            sheet.as_ptr(),
+            sheet.len(),
+            call.topics.as_ptr(),
+            call.topics.len(),
+            call.party.number,
+            call.party.primary,
+            words.as_mut_ptr(),
+            words.len(),
+            others.as_mut_ptr(),
+            others.len(),
             answer.as_mut_ptr(),
             answer.len(),
         )

@@ -4,13 +4,16 @@
 //! one comes, another library was linked, and the reading stops with a panic.
 
 use crate::rule::*;
-use crate::{Days, Refusal};
+use crate::{Days, JoinRefusal, Joined, Refusal, Text};
 
 const ROW: usize = 12;
 pub const ANSWER_WORDS: usize = 108;
 const FIRST_TRIGGER: usize = 1;
 const FIRST_CONDITION: usize = 5;
 const NO_TYPE: u32 = u32::MAX;
+/// Where in row 0 an answer of joining says which text it speaks of; the text of each trigger follows, then that of the
+/// conditions.
+pub const WHICH: usize = 6;
 
 #[cold]
 pub fn broken() -> ! {
@@ -44,6 +47,25 @@ pub fn rule(answer: &[u32; ANSWER_WORDS]) -> Result<Rule, Refusal> {
     Ok(rule)
 }
 
+/// The joined rule, or the refusal and the text that is refused, that an answer of joining has.
+pub fn joined(answer: &[u32; ANSWER_WORDS]) -> Result<Joined, JoinRefusal> {
+    let mut origins = Words { left: answer[WHICH..ROW].iter() };
+    let text = origins.text();
+    let rule = rule(answer).map_err(|refusal| JoinRefusal { text, refusal })?;
+    let mut from = [Text::First; MOST];
+    for (i, from) in from.iter_mut().enumerate() {
+        match origins.text() {
+            Some(text) if i < rule.trigger_count => *from = text,
+            None if i >= rule.trigger_count => {}
+            _ => broken(),
+        }
+    }
+    match (text, origins.text(), rule.condition_count) {
+        (None, None, 0) | (None, Some(Text::First), 1..) => Ok(Joined { rule, from }),
+        _ => broken(),
+    }
+}
+
 /// The words of a row that are not taken yet, from the left.
 struct Words<'a> {
     left: core::slice::Iter<'a, u32>,
@@ -65,6 +87,16 @@ impl<'a> Words<'a> {
     fn count(&mut self) -> usize {
         match usize::try_from(self.word()) {
             Ok(count) if count <= MOST => count,
+            _ => broken(),
+        }
+    }
+
+    /// One of two texts, or 0 for none.
+    fn text(&mut self) -> Option<Text> {
+        match self.word() {
+            0 => None,
+            1 => Some(Text::First),
+            2 => Some(Text::Second),
             _ => broken(),
         }
     }

@@ -39,6 +39,7 @@ mod boundary;
 mod call;
 mod chain;
 mod days;
+mod joined;
 mod layout;
 mod party;
 mod refusal;
@@ -50,6 +51,7 @@ mod token;
 pub use call::Call;
 pub use chain::{chains, next_chain, Chain, MOST_PIECES, VOCABULARY};
 pub use days::{Day, Days};
+pub use joined::{join, JoinRefusal, Joined, Text};
 pub use party::{sheet_primary, Party};
 pub use refusal::Refusal;
 pub use rule::{
@@ -59,7 +61,7 @@ pub use rule::{
 pub use token::{tokens, Token, RECORD_WORDS};
 
 /// How many words a caller lends for the tokens of a text, at least: 1,024 records. With fewer [`read`], [`read_archive`],
-/// [`read_shop`] and [`lex`] give refusal 2.
+/// [`read_shop`], [`join`] and [`lex`] give refusal 2.
 pub const TOKEN_WORDS: usize = 1_024 * RECORD_WORDS;
 
 /// The length of an answer of the library's `tergyosul_lex`.
@@ -162,9 +164,14 @@ pub fn lex(text: &[u8], words: &mut [u32]) -> Result<usize, Refusal> {
 
 /// What a call that reads answers: it writes the words, and gives the number.
 fn answered(read: impl FnOnce(&mut [u32]) -> u32) -> Result<Rule, Refusal> {
+    layout::rule(&answer_of(read)?)
+}
+
+/// The words of an answer that a call writes.
+fn answer_of(call: impl FnOnce(&mut [u32]) -> u32) -> Result<[u32; layout::ANSWER_WORDS], Refusal> {
     let mut answer = [0; layout::ANSWER_WORDS];
-    with_room(read(&mut answer))?;
-    layout::rule(&answer)
+    with_room(call(&mut answer))?;
+    Ok(answer)
 }
 
 /// The arrays above have room for the answer, so the proved library never says that there is none. Another one's word for it

@@ -6,11 +6,11 @@ use core::fmt;
 /// A refusal: its number, its place and a detail. `docs/MANUAL.md` has an example of each and says what to do.
 #[derive(Debug, Clone, Copy, PartialEq, Eq, Hash)]
 pub struct Refusal {
-    /// 1 to 4, 10 to 13, 15 to 41, 50, 53, 57 to 59 or 63 to 67.
+    /// 1 to 4, 10 to 13, 15 to 41, 50 to 53, 57 to 59 or 63 to 67.
     pub number: u32,
     /// From 1, or 0 where there is no place. For number 3 it is the sheet's line, for the others the text's.
     pub line: u32,
-    /// From 1, in characters; 0 for the numbers 1 to 3, 53 and 67.
+    /// From 1, in characters; 0 for the numbers 1 to 3, 51 to 53 and 67.
     pub column: u32,
     /// With 32 an adapter, with 33 and 34 a count of rows, else 0.
     pub detail: u32,
@@ -56,6 +56,8 @@ impl Refusal {
             40 => "`is` behind a topic is left out",
             41 => "the text goes on after the rule",
             50 => "the word is no day",
+            51 => "the conditions of the two rules differ",
+            52 => "the two rules have more than four triggers",
             53 => "the primary adapter is not the party's",
             57 => "the shop profile takes a name here, no number",
             58 => "the shop profile has no broadcast",

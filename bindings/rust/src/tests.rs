@@ -541,13 +541,15 @@ fn without_a_repeat_the_calls_are_alike() {
 #[test]
 fn no_room_for_the_answer() {
     let mut answer = [7; layout::ANSWER_WORDS - 1];
-    let mut words = [9; TOKEN_WORDS];
+    let [mut words, mut others] = [[9; TOKEN_WORDS]; 2];
     for (text, sheet) in [(&b"when http trigger"[..], SHEET), (b"when", SHEET), (b"when http trigger", b"")] {
         assert_eq!(boundary::read(text, sheet, ZERO, &mut words, &mut answer), boundary::NO_ROOM);
         assert_eq!(boundary::read(text, sheet, ZERO, &mut words, &mut []), boundary::NO_ROOM);
         assert_eq!(boundary::read(text, sheet, ZERO, &mut [], &mut answer), boundary::NO_ROOM);
         assert_eq!(boundary::read_archive(text, sheet, ZERO, &mut words, &mut answer), boundary::NO_ROOM);
         assert_eq!(boundary::read_shop(text, sheet, ZERO, &mut words, &mut answer), boundary::NO_ROOM);
+        let both: [&mut [u32]; 2] = [&mut words, &mut others];
+        assert_eq!(boundary::join([text; 2], sheet, ZERO, both, &mut answer), boundary::NO_ROOM);
     }
     for text in [&b"when http trigger"[..], b"when @"] {
         assert_eq!(boundary::lex(text, &mut words, &mut answer[..LEX_WORDS - 1]), boundary::NO_ROOM);
@@ -558,7 +560,7 @@ fn no_room_for_the_answer() {
         assert_eq!(boundary::next_chain(start, &mut []), boundary::NO_ROOM);
     }
     assert!(answer.iter().all(|&word| word == 7));
-    assert!(words.iter().all(|&word| word == 9));
+    assert!(words.iter().chain(&others).all(|&word| word == 9));
     let refusal = with_room(boundary::NO_ROOM).unwrap_err();
     assert_eq!(refusal.to_string(), "there is no room for the answer (refusal 4294967295)");
     assert_eq!(with_room(20), Ok(()));
@@ -640,12 +642,12 @@ fn lexing_refuses_what_is_not_utf8() {
 #[test]
 fn every_refusal_has_its_own_meaning() {
     let refusal = |number| Refusal { number, line: 2, column: 3, detail: 4 };
-    let known = |number| matches!(number, 1..=4 | 10..=13 | 15..=41 | 50 | 53 | 57..=59 | 63..=67);
+    let known = |number| matches!(number, 1..=4 | 10..=13 | 15..=41 | 50..=53 | 57..=59 | 63..=67);
     let mut meanings: Vec<&str> = (0..100).filter(|&n| known(n)).map(|n| refusal(n).meaning()).collect();
-    assert_eq!(meanings.len(), 45);
+    assert_eq!(meanings.len(), 47);
     meanings.sort();
     meanings.dedup();
-    assert_eq!(meanings.len(), 45);
+    assert_eq!(meanings.len(), 47);
     let unknown = refusal(0).meaning();
     assert!((0..100).all(|n| known(n) != (refusal(n).meaning() == unknown)));
     assert_eq!(refusal(3).to_string(), "sheet line 2: the sheet is not well formed (refusal 3)");
@@ -694,6 +696,53 @@ fn a_broken_answer_is_seen() {
         &[(5, 1), (60, 4), (63, 1), (64, 4)],
         &[(5, 1), (60, 4), (63, 1), (64, 2), (65, 24)],
         &[(5, 1), (60, 15), (63, 1), (64, 5)],
+    ];
+    for words in cases {
+        assert_eq!(decoded(words), broken, "{words:?}");
+    }
+}
+
+/// Row 0 of an answer of `tergyosul_join`, by the header's places.
+#[test]
+fn a_joining_says_its_texts() {
+    assert_covers("tergyosul_origin", &[("WHICH", layout::WHICH as u32), ("TRIGGERS_FROM", 7), ("CONDITIONS_FROM", 11)]);
+    let row = |first: &[u8], second: &[u8]| {
+        let [mut words, mut others] = [[0; TOKEN_WORDS]; 2];
+        let mut answer = [u32::MAX; layout::ANSWER_WORDS];
+        let number = boundary::join([first, second], SHEET, ZERO, [&mut words, &mut others], &mut answer);
+        assert_eq!(number, answer[0]);
+        let [row @ .., _, _] = *answer.first_chunk::<14>().expect("row 0");
+        row
+    };
+    let one = b"when http trigger when every 1s if sun is up";
+    let two = b"when every 1s when every 2s if sun is up";
+    assert_eq!(row(one, two), [0, 0, 0, 0, 3, 1, 0, 1, 1, 2, 0, 1]);
+    assert_eq!(row(b"when every 1s", b"when every 1s"), [0, 0, 0, 0, 1, 0, 0, 1, 0, 0, 0, 0]);
+    assert_eq!(row(b"when", two), [20, 1, 5, 0, 0, 0, 1, 0, 0, 0, 0, 0]);
+    assert_eq!(row(one, b"when"), [20, 1, 5, 0, 0, 0, 2, 0, 0, 0, 0, 0]);
+    assert_eq!(row(one, b"when every 1s"), [51, 0, 0, 0, 0, 0, 0, 0, 0, 0, 0, 0]);
+}
+
+/// A joining whose words for the texts do not fit the rest.
+#[test]
+fn a_broken_joining_is_seen() {
+    let decoded = |words: &[(usize, u32)]| {
+        let mut answer = [0; layout::ANSWER_WORDS];
+        words.iter().for_each(|&(at, word)| answer[at] = word);
+        std::panic::catch_unwind(|| layout::joined(&answer)).map_err(|panic| *panic.downcast::<&str>().expect("a message"))
+    };
+    let broken = Err("the answer does not follow its layout");
+    assert!(decoded(&[(4, 1), (7, 2), (12, 20)]).is_ok());
+    assert!(decoded(&[(4, 1), (5, 1), (7, 1), (11, 1), (12, 20), (60, 14)]).is_ok());
+    let cases: [&[(usize, u32)]; 8] = [
+        &[(4, 1), (12, 20)],
+        &[(4, 1), (7, 3), (12, 20)],
+        &[(4, 1), (7, 1), (8, 1), (12, 20)],
+        &[(4, 1), (6, 1), (7, 1), (12, 20)],
+        &[(4, 1), (7, 1), (11, 1), (12, 20)],
+        &[(4, 1), (5, 1), (7, 1), (12, 20), (60, 14)],
+        &[(4, 1), (5, 1), (7, 1), (11, 2), (12, 20), (60, 14)],
+        &[(0, 20), (6, 3)],
     ];
     for words in cases {
         assert_eq!(decoded(words), broken, "{words:?}");

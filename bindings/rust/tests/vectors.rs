@@ -3,16 +3,22 @@
 
 mod shown;
 
-use std::fmt::Write;
 use std::path::Path;
 use std::{fs, str};
-use tergyosul::{Call, Party};
+use tergyosul::{Call, Party, Refusal};
 
 /// What every word holds before a call.
 const UNTOUCHED: u32 = u32::MAX;
 
 /// A call of this crate.
 type Read<'a> = fn(&[u8], &[u8], Call<'a>, &mut [u32]) -> Result<tergyosul::Rule, tergyosul::Refusal>;
+
+/// A stored call, and a start of a chain: its number and its pieces.
+enum Block<'a> {
+    Read(Case<'a>),
+    Join(Joining<'a>),
+    Next(&'a str, Vec<u8>),
+}
 
 struct Case<'a> {
     id: &'a str,
@@ -27,6 +33,14 @@ impl Case<'_> {
     fn read(&self, words: &mut [u32]) -> Result<tergyosul::Rule, tergyosul::Refusal> {
         (self.read)(self.text, self.sheet, self.call, words)
     }
+}
+
+struct Joining<'a> {
+    id: &'a str,
+    sizes: [usize; 2],
+    texts: [&'a [u8]; 2],
+    sheet: &'a [u8],
+    call: Call<'a>,
 }
 
 fn stored(name: &str) -> Vec<u8> {
@@ -57,41 +71,47 @@ fn line<'a>(input: &mut &'a [u8]) -> &'a str {
     str::from_utf8(body(input, &end.to_string())).expect("a line of text")
 }
 
-/// A start of a chain: its number and its pieces. They stand behind all cases.
-fn starts(mut input: &[u8]) -> Vec<(&str, Vec<u8>)> {
-    let mut starts = Vec::new();
-    while !input.is_empty() {
-        let ["next", id, _, _] = line(&mut input).split(' ').collect::<Vec<_>>()[..] else { panic!("a start") };
-        let pieces = line(&mut input).split_terminator(' ').map(|piece| piece.parse().expect("a piece")).collect();
-        starts.push((id, pieces));
-    }
-    starts
+fn size(number: &str) -> usize {
+    number.parse().expect("a size")
 }
 
-/// The cases, and the starts of chains behind them. A `case` is party 0's, with the sheet's own primary and no topics.
-fn cases(mut input: &[u8]) -> (Vec<Case<'_>>, Vec<(&str, Vec<u8>)>) {
-    let mut cases = Vec::new();
-    while !input.is_empty() && !input.starts_with(b"next ") {
-        let header: Vec<&str> = line(&mut input).split(' ').collect();
-        let (id, habit, words, text, sheet, settings) = match header[..] {
-            ["case", id, words, text, sheet] => (id, "archive", words, text, sheet, None),
-            ["call", id, habit, words, party, primary, text, sheet, topics] => {
-                (id, habit, words, text, sheet, Some((party, primary, topics)))
-            }
-            _ => panic!("{header:?}"),
-        };
-        let text = body(&mut input, text);
-        let sheet = body(&mut input, sheet);
-        let call = match settings {
-            None => Party::of_sheet(sheet).into(),
-            Some((party, primary, topics)) => Call {
-                party: Party { number: party.parse().expect("a party"), primary: primary.parse().expect("an adapter") },
-                topics: body(&mut input, topics),
-            },
-        };
-        cases.push(Case { id, read: read_by(habit), words: words.parse().expect("a length"), text, sheet, call });
+fn party(number: &str, primary: &str) -> Party {
+    Party { number: number.parse().expect("a party"), primary: primary.parse().expect("an adapter") }
+}
+
+/// The block with this first line, whose bytes follow. A `case` is party 0's, with the sheet's own primary and no topics.
+fn block<'a>(header: &[&'a str], input: &mut &'a [u8]) -> Block<'a> {
+    match *header {
+        ["case", id, words, text, sheet] => {
+            let (text, sheet) = (body(input, text), body(input, sheet));
+            let call = Party::of_sheet(sheet).into();
+            Block::Read(Case { id, read: tergyosul::read_archive, words: size(words), text, sheet, call })
+        }
+        ["call", id, habit, words, number, primary, text, sheet, topics] => {
+            let (text, sheet) = (body(input, text), body(input, sheet));
+            let call = Call { party: party(number, primary), topics: body(input, topics) };
+            Block::Read(Case { id, read: read_by(habit), words: size(words), text, sheet, call })
+        }
+        ["join", id, words, others, number, primary, first, second, sheet, topics] => {
+            let (texts, sheet) = ([body(input, first), body(input, second)], body(input, sheet));
+            let call = Call { party: party(number, primary), topics: body(input, topics) };
+            Block::Join(Joining { id, sizes: [size(words), size(others)], texts, sheet, call })
+        }
+        ["next", id, _, _] => {
+            let pieces = line(input).split_terminator(' ').map(|piece| piece.parse().expect("a piece")).collect();
+            Block::Next(id, pieces)
+        }
+        _ => panic!("{header:?}"),
     }
-    (cases, starts(input))
+}
+
+fn blocks(mut input: &[u8]) -> Vec<Block<'_>> {
+    let mut blocks = Vec::new();
+    while !input.is_empty() {
+        let header: Vec<&str> = line(&mut input).split(' ').collect();
+        blocks.push(block(&header, &mut input));
+    }
+    blocks
 }
 
 /// The tokens whose records a call wrote.
@@ -99,26 +119,51 @@ fn written(words: &[u32]) -> impl Iterator<Item = tergyosul::Token> + '_ {
     tergyosul::tokens(words).take_while(|token| token.kind != UNTOUCHED)
 }
 
-/// The answer to a case, in the replay format.
-fn answer(case: &Case) -> String {
-    let mut words = vec![UNTOUCHED; case.words];
-    let read = case.read(&mut words);
-    let mut out = format!("case {}\n", case.id);
-    let tokens: Vec<_> = written(&words).collect();
-    tokens.iter().for_each(|token| out += &shown::token(token));
+/// The lines of the tokens, and whether the words behind their records are untouched.
+fn buffer(words: &[u32]) -> String {
+    let tokens: Vec<_> = written(words).collect();
+    let mut out: String = tokens.iter().map(shown::token).collect();
     let kept = words[tokens.len() * tergyosul::RECORD_WORDS..].iter().all(|&word| word == UNTOUCHED);
     out += if kept { "buffer kept\n" } else { "buffer changed\n" };
-    match read {
-        Err(r) => writeln!(out, "refused {} {} {} {}", r.number, r.line, r.column, r.detail).unwrap(),
-        Ok(rule) => out += &shown::rule(&rule, case.text),
-    }
     out
+}
+
+fn refusal(r: Refusal) -> String {
+    format!("{} {} {} {}", r.number, r.line, r.column, r.detail)
+}
+
+/// The answer to a call, in the replay format.
+fn answer(block: &Block) -> String {
+    match block {
+        Block::Read(case) => answer_to_case(case),
+        Block::Join(joining) => answer_to_joining(joining),
+        Block::Next(id, pieces) => answer_to_start(id, pieces),
+    }
+}
+
+fn answer_to_case(case: &Case) -> String {
+    let mut words = vec![UNTOUCHED; case.words];
+    let said = match case.read(&mut words) {
+        Err(r) => format!("refused {}\n", refusal(r)),
+        Ok(rule) => shown::rule(&rule, case.text),
+    };
+    format!("case {}\n{}{said}", case.id, buffer(&words))
+}
+
+fn answer_to_joining(joining: &Joining) -> String {
+    let Joining { id, sizes, texts: [first, second], sheet, call } = *joining;
+    let [mut words, mut others] = sizes.map(|size| vec![UNTOUCHED; size]);
+    let said = match tergyosul::join(first, second, sheet, call, &mut words, &mut others) {
+        Err(r) => format!("refused {} {}\n", r.text.map_or(0, |text| text as u32 + 1), refusal(r.refusal)),
+        Ok(joined) => shown::joined(&joined, first, second),
+    };
+    format!("case {id}\n{}{}{said}", buffer(&words), buffer(&others))
 }
 
 /// The answer to a start of a chain, in the replay format. This crate lends its own array for it.
 fn answer_to_start(id: &str, pieces: &[u8]) -> String {
     let said = match tergyosul::next_chain(pieces) {
-        Err(r) => format!("refused {} {} {} {}", r.number, r.line, r.column, r.detail),
+        Err(r) => format!("refused {}", refusal(r)),
         Ok(None) => "none".to_string(),
         Ok(Some(chain)) => chain.pieces().iter().fold("chain".to_string(), |line, piece| format!("{line} {piece}")),
     };
@@ -141,12 +186,12 @@ fn answers(output: &str) -> Vec<String> {
 fn every_stored_answer_is_given() {
     let input = stored("stdin");
     let output = String::from_utf8(stored("stdout")).expect("the answers are UTF-8");
-    let ((cases, starts), answers) = (cases(&input), answers(&output));
-    assert!(cases.len() >= 1286 && starts.len() >= 100);
-    assert_eq!(cases.len() + starts.len(), answers.len());
-    let given = cases.iter().map(answer).chain(starts.iter().map(|(id, pieces)| answer_to_start(id, pieces)));
-    for (given, expected) in given.zip(&answers) {
-        assert_eq!(given, *expected);
+    let (blocks, answers) = (blocks(&input), answers(&output));
+    assert!(blocks.iter().filter(|block| matches!(block, Block::Read(_))).count() >= 1286);
+    assert!(blocks.iter().filter(|block| matches!(block, Block::Next(..))).count() >= 100);
+    assert_eq!(blocks.len(), answers.len());
+    for (block, expected) in blocks.iter().zip(&answers) {
+        assert_eq!(answer(block), *expected);
     }
 }
 
@@ -154,7 +199,8 @@ fn every_stored_answer_is_given() {
 #[test]
 fn lexing_agrees() {
     let input = stored("stdin");
-    for case in cases(&input).0 {
+    for block in blocks(&input) {
+        let Block::Read(case) = block else { continue };
         let mut words = vec![UNTOUCHED; case.words];
         let read = case.read(&mut words);
         let mut lexed_words = vec![UNTOUCHED; case.words];
@@ -173,14 +219,14 @@ fn lexing_agrees() {
 fn calls_of_several_threads() {
     let input = stored("stdin");
     let output = String::from_utf8(stored("stdout")).expect("the answers are UTF-8");
-    let ((cases, _), answers) = (cases(&input), answers(&output));
+    let (blocks, answers) = (blocks(&input), answers(&output));
     std::thread::scope(|scope| {
         for first in 0..4 {
-            let (cases, answers) = (&cases, &answers);
+            let (blocks, answers) = (&blocks, &answers);
             scope.spawn(move || {
-                let from = first * cases.len() / 4;
-                for i in (from..cases.len()).chain(0..from) {
-                    assert_eq!(answer(&cases[i]), answers[i], "case {}", cases[i].id);
+                let from = first * blocks.len() / 4;
+                for i in (from..blocks.len()).chain(0..from) {
+                    assert_eq!(answer(&blocks[i]), answers[i]);
                 }
             });
         }

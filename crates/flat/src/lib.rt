@@ -1,9 +1,9 @@
 // An answer as words: nine rows of twelve (specs/Flat.antt). include/tergyosul.h has the same layout for C.
-mod codes;
-mod conditions;
+pub mod codes;
+pub mod conditions;
 mod parts;
-mod rows;
-mod triggers;
+pub mod rows;
+pub mod triggers;
 
 use crate::rows::ROW_WORDS;
 use crate::rows::Row;

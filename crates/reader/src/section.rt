@@ -61,7 +61,7 @@ fn whens_done(list: Triggers, next: Cursor) -> Whens
 }
 
 // The topic that a trigger names, if it names one.
-fn topic_of(x: Trigger) -> Topic
+pub fn topic_of(x: Trigger) -> Topic
     ensures { λ r. ⌜ r ≡ topicName x ⌝ }
 {
     match x {

@@ -16,6 +16,15 @@ pub const TRIGGER_COUNT: usize = 4;
 // Where the count of the conditions stands.
 pub const CONDITION_COUNT: usize = 5;
 
+// Where the words begin that say which text each trigger of a joining is taken from.
+pub const TRIGGERS_FROM: usize = 7;
+
+// Where the word stands that says it of the conditions.
+pub const CONDITIONS_FROM: usize = 11;
+
+// What these words say of the first text.
+pub const FIRST_TEXT: u32 = 1;
+
 // Where the triggers begin.
 pub const TRIGGERS: usize = 12;
 

@@ -2,6 +2,7 @@
 mod chain;
 mod forms;
 mod input;
+mod joining;
 mod layout;
 mod list;
 mod out;
@@ -194,7 +195,7 @@ fn rest_of_call() -> bool {
     })
 }
 
-// What follows the first word; false where that is none of `case `, `call ` and `next `.
+// What follows the first word; false where that is none of `case `, `call `, `join ` and `next `.
 fn rest(first: &[u8]) -> bool {
     if text::part::same(first, b"case ") {
         return rest_of_case();
@@ -202,13 +203,16 @@ fn rest(first: &[u8]) -> bool {
     if text::part::same(first, b"call ") {
         return rest_of_call();
     }
+    if text::part::same(first, b"join ") {
+        return joining::rest();
+    }
     if text::part::same(first, b"next ") {
         return chain::rest();
     }
     false
 }
 
-// One case, call or chain; false at the end of the input, and where it is none of them.
+// One case, call, joining or chain; false at the end of the input, and where it is none of them.
 fn one_case() -> bool {
     let mut first = [0u8; 5];
     if io::read_full(0, &mut first) == 0 {

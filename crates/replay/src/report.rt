@@ -32,7 +32,7 @@ fn untouched(words: &[u32], count: usize) -> bool {
 }
 
 // The records that the call wrote, which end before the first whose kind is untouched; and whether the rest is untouched.
-fn buffer(out: &mut [u8], at: usize, words: &[u32]) -> usize {
+pub fn buffer(out: &mut [u8], at: usize, words: &[u32]) -> usize {
     let most = tokens::record::count(words);
     let mut p = at;
     let mut i = 0;

@@ -14,7 +14,7 @@ use sheet::Call;
 use sheet::Habit;
 
 // Is a row in use? Rows 1 to 4 are for triggers, 5 to 8 for conditions.
-fn is_used(answer: &[u32], row: u32) -> bool {
+pub fn is_used(answer: &[u32], row: u32) -> bool {
     if row < 5 {
         return row <= layout::triggers(answer);
     }
@@ -22,7 +22,7 @@ fn is_used(answer: &[u32], row: u32) -> bool {
 }
 
 // The line of a row; nothing where the row is not in use.
-fn line(text: &[u8], sheet: &[u8], answer: &[u32], row: u32) {
+pub fn line(text: &[u8], sheet: &[u8], answer: &[u32], row: u32) {
     if !is_used(answer, row) {
         return;
     }
@@ -38,9 +38,14 @@ fn lines(text: &[u8], sheet: &[u8], answer: &[u32]) {
     }
 }
 
+// The last line of the output.
+pub fn verdict(answer: &[u32]) {
+    say::numbers(answer, b"accepted: %n4 trigger%P4, %n5 condition%P5\n");
+}
+
 fn accepted(text: &[u8], sheet: &[u8], answer: &[u32]) {
     lines(text, sheet, answer);
-    say::numbers(answer, b"accepted: %n4 trigger%P4, %n5 condition%P5\n");
+    verdict(answer);
 }
 
 // The number that is given, or else another.
@@ -63,7 +68,7 @@ fn habit(archive: bool, shop: bool) -> Habit {
 }
 
 // The call that the options ask for: for party 0 unless one is given, with the sheet's own primary adapter unless one is given.
-fn asked(o: Options, sheet: &[u8]) -> Call {
+pub fn asked(o: Options, sheet: &[u8]) -> Call {
     Call {
         habit: habit(o.archive, o.shop),
         party: given(o.party, 0),
@@ -119,23 +124,22 @@ fn answered(
     );
 }
 
-// Reads the file of topics with a name into a buffer, if the options name one.
-fn load_topics(o: Options, name: &[u8], buf: &mut [u8]) -> Loaded {
+// Reads the file of topics into a buffer, if the options name one.
+pub fn load_topics(o: Options, buf: &mut [u8]) -> Loaded {
     if o.topics == options::NO_TOPICS {
         return Loaded { fault: 0, size: 0 };
     }
+    let mut buffer = [0u8; 4095];
+    let n = os::arg(o.topics, &mut buffer);
+    let name = text::part::part(&buffer, 0, n);
     files::load_topics(name, buf)
 }
 
 // Reads the file of topics, and the rule with it.
 fn with_topics(o: Options, text: &[u8], sheet: &[u8], text_name: &[u8], sheet_name: &[u8]) {
-    let mut buffer = [0u8; 4095];
     let mut topics = [0u8; 20000];
-    let n = os::arg(o.topics, &mut buffer);
-    let name = text::part::part(&buffer, 0, n);
-    let loaded = load_topics(o, name, &mut topics);
+    let loaded = load_topics(o, &mut topics);
     if loaded.fault != 0 {
-        files::complain(name, loaded.fault);
         return;
     }
     let lent = text::part::part(&topics, 0, loaded.size);
@@ -148,12 +152,10 @@ fn with_files(o: Options, text_name: &[u8], sheet_name: &[u8]) {
     let mut sheet = [0u8; 20000];
     let first = files::load(text_name, &mut text);
     if first.fault != 0 {
-        files::complain(text_name, first.fault);
         return;
     }
     let second = files::load(sheet_name, &mut sheet);
     if second.fault != 0 {
-        files::complain(sheet_name, second.fault);
         return;
     }
     with_topics(
@@ -165,12 +167,12 @@ fn with_files(o: Options, text_name: &[u8], sheet_name: &[u8]) {
     );
 }
 
-// The names of the files are the words of the call at two indices.
-pub fn run(o: Options, text_at: usize, sheet_at: usize) {
+// The names of the files are the words behind the options, in a call with so many.
+pub fn run(o: Options, count: usize) {
     let mut text_name = [0u8; 4095];
     let mut sheet_name = [0u8; 4095];
-    let n = os::arg(text_at, &mut text_name);
-    let m = os::arg(sheet_at, &mut sheet_name);
+    let n = os::arg(o.at, &mut text_name);
+    let m = os::arg(options::further(o.at, 1, count), &mut sheet_name);
     with_files(
         o,
         text::part::part(&text_name, 0, n),

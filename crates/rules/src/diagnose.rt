@@ -78,7 +78,7 @@ fn explained(text: &[u8], sheet: &[u8], lent: &[u8], words: &[u32], name: &[u8],
 }
 
 // The last line of the output.
-fn verdict(answer: &[u32]) {
+pub fn verdict(answer: &[u32]) {
     if layout::line(answer) == 0 {
         say::numbers(answer, b"refused: %n0\n");
         return;
@@ -92,9 +92,9 @@ pub fn bad_sheet(sheet: &[u8], answer: &[u32], name: &[u8]) {
     verdict(answer);
 }
 
-// The diagnostic of what the answer of a call refuses, the sheet apart, of which this is what the party sees. The names are those of the files: the text's
-// stands before what is wrong with it, the sheet's before 53, which is about whose an adapter is.
-pub fn show(
+// The diagnostic of what the answer of a call refuses, the sheet apart, of which this is what the party sees, up to the last line of the output. The names are
+// those of the files: the text's stands before what is wrong with it, the sheet's before 53, which is about whose an adapter is.
+pub fn explain(
     text: &[u8],
     sheet: &[u8],
     lent: &[u8],
@@ -111,6 +111,29 @@ pub fn show(
     } else {
         explained(text, sheet, lent, words, text_name, f);
     }
+}
+
+// The same with the last line.
+pub fn show(
+    text: &[u8],
+    sheet: &[u8],
+    lent: &[u8],
+    words: &mut [u32],
+    answer: &[u32],
+    text_name: &[u8],
+    sheet_name: &[u8],
+    call: Call,
+) {
+    explain(
+        text,
+        sheet,
+        lent,
+        words,
+        answer,
+        text_name,
+        sheet_name,
+        call,
+    );
     verdict(answer);
 }
 

@@ -32,7 +32,7 @@ fn fill(file: i32, buf: &mut [u8]) -> Loaded {
 }
 
 // Reads the file with a name of 1 to 4,095 bytes.
-pub fn load(name: &[u8], buf: &mut [u8]) -> Loaded {
+fn read(name: &[u8], buf: &mut [u8]) -> Loaded {
     if name.len() == 0 {
         return failed(1);
     }
@@ -42,15 +42,6 @@ pub fn load(name: &[u8], buf: &mut [u8]) -> Loaded {
     }
     let loaded = fill(file, buf);
     libc::close(file);
-    loaded
-}
-
-// Reads a file of topics, for which the reader has no bound: one that may have been cut is not taken.
-pub fn load_topics(name: &[u8], buf: &mut [u8]) -> Loaded {
-    let loaded = load(name, buf);
-    if MOST_TOPICS < loaded.size {
-        return failed(4);
-    }
     loaded
 }
 
@@ -64,7 +55,7 @@ fn reason(fault: u32) {
 }
 
 // The reason why a file was not read, and the last line of the output.
-pub fn complain(name: &[u8], fault: u32) {
+fn complain(name: &[u8], fault: u32) {
     if fault == 1 {
         out::bytes(
             b"a file name is empty or has more than 4,095 bytes\nrefused: no file was read\n",
@@ -76,4 +67,25 @@ pub fn complain(name: &[u8], fault: u32) {
     out::bytes(b"refused: the file ");
     out::shown(name);
     out::bytes(b" was not read\n");
+}
+
+// How reading a file went, said if it did not go well.
+fn said(name: &[u8], loaded: Loaded) -> Loaded {
+    if loaded.fault != 0 {
+        complain(name, loaded.fault);
+    }
+    loaded
+}
+
+pub fn load(name: &[u8], buf: &mut [u8]) -> Loaded {
+    said(name, read(name, buf))
+}
+
+// Reads a file of topics, for which the reader has no bound: one that may have been cut is not taken.
+pub fn load_topics(name: &[u8], buf: &mut [u8]) -> Loaded {
+    let loaded = read(name, buf);
+    if MOST_TOPICS < loaded.size {
+        return said(name, failed(4));
+    }
+    said(name, loaded)
 }

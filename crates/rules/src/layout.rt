@@ -38,3 +38,16 @@ pub fn triggers(answer: &[u32]) -> u32 {
 pub fn conditions(answer: &[u32]) -> u32 {
     get(answer, 0, 5)
 }
+
+// Of joining: the text that is refused, 1 or 2, else 0.
+pub fn which(answer: &[u32]) -> u32 {
+    get(answer, 0, 6)
+}
+
+// Of joining: the text that the entry in a row is taken from, 1 or 2. Of one reading it is 0.
+pub fn origin(answer: &[u32], row: u32) -> u32 {
+    if row < 5 {
+        return get(answer, 0, 6 + row as usize);
+    }
+    get(answer, 0, 11)
+}

@@ -57,7 +57,6 @@ fn with_file(name: &[u8]) {
     let mut text = [0u8; 20000];
     let loaded = files::load(name, &mut text);
     if loaded.fault != 0 {
-        files::complain(name, loaded.fault);
         return;
     }
     answered(text::part::part(&text, 0, loaded.size), name);

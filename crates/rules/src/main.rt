@@ -4,6 +4,7 @@ mod checking;
 mod comparing;
 mod day;
 mod diagnose;
+mod entries;
 mod expected;
 mod fault;
 mod files;
@@ -11,6 +12,7 @@ mod forms;
 mod help;
 mod inputs;
 mod items;
+mod joining;
 mod layout;
 mod listing;
 mod lookup;
@@ -43,10 +45,11 @@ fn usage() {
   rules check RULES SHEET   reads the rule in the file RULES with the name sheet in the file SHEET
   rules tokens RULES        lists the words, numbers and signs of the rule
   rules same A B            says whether the rules in the files A and B are the same, layout aside
+  rules join A B SHEET      joins the rules in the files A and B, which have the same conditions, into one
   rules chains              lists every short chain of conditions, one a line
   rules help                prints this
 
-Options stand before the files of check; the others have none:
+Options stand before the files of check and of join, which has no --archive and no --shop; the others have none:
 
   --archive       reads as the archive loader does: a repeated argument of an input replaces the earlier one; otherwise
                   a repeat is refused
@@ -65,18 +68,23 @@ same compares the words, texts, values and signs of two rules one by one; commen
 is the value of 5000ms. If all are the same, both rules are read alike with the same sheet and options, which is proved.
 Otherwise same shows the first difference in both, and says no more: check shows how each is read.
 
+join reads both rules, and prints the joined rule as check does, each line behind the file that it is taken from: the
+triggers of A, then those of B that are not there yet, repeats left out, and then the conditions, which have to be the
+same in both, in the same order. At most four triggers may be left. Entries are the same if they are read alike, as
+`every 1h` and `every 60m` are, or a lamp's name and its number. The topics of A count as those of an earlier rule for B.
+
 chains is for comparing readers. It takes no files and prints the 636 chains of one to four conditions, joined by `and`,
 that are accepted and have at most fifteen words, numbers and signs, all of these:
 lamp sun time is in on off up down sunrise sunset level and 0 63 64 ( ) . .. == + -
 Shorter ones come first, then they follow the order of this line, word by word.
 
-check prints each trigger and each condition in plain words, or one refusal: its place, what stands there, what
-belongs there, and a way out. Days, as in `at 7:05 on sun, mon..fri` or `day in sat, sun`, are shown from Monday to
-Sunday however the rule has them, three or more in a row by the first and the last: `mon to fri, sun`. The last line
+check prints each trigger and each condition in plain words, or one refusal: its place, what stands there, what belongs
+there, and a way out; so does join. Days, as in `at 7:05 on sun, mon..fri` or `day in sat, sun`, are shown from Monday
+to Sunday however the rule has them, three or more in a row by the first and the last: `mon to fri, sun`. The last line
 begins with `accepted`, or with `refused` and the refusal's number; that of same with `same` or `different`, or with
-`refused` and the number if one of the texts is refused with 1, 4 or 10 to 19. If the arguments are bad or a file
-cannot be read, it says that behind `refused`. The exit status of this program is always 0, since its language cannot
-set another. The script ./rules, which runs it, gives 0 for accepted and same, 1 for refused and different, 2 for bad
+`refused` and the number if one of the texts is refused with 1, 4 or 10 to 19. If the arguments are bad or a file cannot
+be read, it says that behind `refused`. The exit status of this program is always 0, since its language cannot set
+another. The script ./rules, which runs it, gives 0 for accepted and same, 1 for refused and different, 2 for bad
 arguments and for files that cannot be read.
 ",
     );
@@ -92,10 +100,12 @@ fn bad_arguments(wrong: u32) {
 5 an option is given twice
 6 --archive and --shop do not go together
 7 nothing stands behind chains
-8 same takes two files, both of them rules, and no option; before the name of a file that begins with a dash write ./";
+8 same takes two files, both of them rules, and no option; before the name of a file that begins with a dash write ./
+9 join takes three files: two rules and a name sheet
+10 --archive and --shop do not go together with join, which reads both rules without them";
     out::entry(table, wrong);
     out::bytes(
-        b"\nusage: rules check [--archive | --shop] [--party P] [--primary A] [--topics FILE] RULES SHEET | rules tokens RULES | rules same A B | rules chains | rules help\nrefused: bad arguments\n",
+        b"\nusage: rules check [--archive | --shop] [--party P] [--primary A] [--topics FILE] RULES SHEET | rules tokens RULES | rules same A B | rules join [--party P] [--primary A] [--topics FILE] A B SHEET | rules chains | rules help\nrefused: bad arguments\n",
     );
 }
 
@@ -107,16 +117,22 @@ fn is_help(command: &[u8]) -> bool {
 
 // Checks a rule: behind the options stand its file and the sheet's, and nothing else.
 fn check(count: usize) {
-    let o = options::read(count);
+    let o = options::before_files(count, 2, 1);
     if o.wrong != 0 {
         bad_arguments(o.wrong);
         return;
     }
-    if o.at < count && count - o.at == 2 {
-        checking::run(o, o.at, o.at + 1);
+    checking::run(o, count);
+}
+
+// Joins two rules: behind the options stand their files and the sheet's, and nothing else.
+fn join(count: usize) {
+    let o = options::without_habit(options::before_files(count, 3, 9));
+    if o.wrong != 0 {
+        bad_arguments(o.wrong);
         return;
     }
-    bad_arguments(1);
+    joining::run(o, count);
 }
 
 fn list(count: usize) {
@@ -159,6 +175,10 @@ fn run(command: &[u8], count: usize) {
     }
     if text::part::same(command, b"same") {
         compare(count);
+        return;
+    }
+    if text::part::same(command, b"join") {
+        join(count);
         return;
     }
     if text::part::same(command, b"chains") {

@@ -1,4 +1,4 @@
-// The options of `rules check`, which stand before its files.
+// The options of `rules check` and `rules join`, which stand before their files.
 
 // What stands for a number where none from 0 to 255 is given.
 pub const NONE: u32 = 256;
@@ -17,6 +17,9 @@ const TWICE: u32 = 5;
 
 // The archive loader's habit and the shop profile are asked for together.
 const BOTH: u32 = 6;
+
+// One of these is asked for where two rules are joined.
+const NO_HABIT: u32 = 10;
 
 // What the options say, NONE for a number that is not given, and the index of the word that names the file of topics; the index of the word behind them; and
 // what is wrong with them, 0 for nothing.
@@ -64,7 +67,7 @@ fn number_at(i: usize) -> u32 {
 }
 
 // The index so many words further; the count of the words where there are not so many.
-fn further(at: usize, words: usize, count: usize) -> usize {
+pub fn further(at: usize, words: usize, count: usize) -> usize {
     if count <= at {
         return count;
     }
@@ -184,6 +187,29 @@ pub fn read(count: usize) -> Options {
     while left > 0 {
         o = with_next(o, count);
         left -= 1;
+    }
+    o
+}
+
+// The same for a command that takes so many files, which stand behind the options, and nothing else; `wrong` is what is wrong otherwise.
+pub fn before_files(count: usize, files: usize, wrong: u32) -> Options {
+    let o = read(count);
+    if o.wrong != 0 {
+        return o;
+    }
+    if o.at < count && count - o.at == files {
+        return o;
+    }
+    refused(o, wrong)
+}
+
+// The options of joining, which reads both rules by the default call.
+pub fn without_habit(o: Options) -> Options {
+    if o.wrong != 0 {
+        return o;
+    }
+    if o.archive || o.shop {
+        return refused(o, NO_HABIT);
     }
     o
 }

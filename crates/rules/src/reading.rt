@@ -1,5 +1,6 @@
 // The reader under test, called here alone: nothing in this program leans on what it ensures.
 
+use model::Answer;
 use sheet::Call;
 use sheet::Habit;
 
@@ -26,6 +27,46 @@ pub fn read(
             tergyosul::tergyosul_read_shop(text, sheet, lent, party, primary, words, answer)
         }
     }
+}
+
+// Reads two rule texts and joins them; the habit has no part in it. 0, or the number of the refusal. Each text has words of its own.
+pub fn join(
+    call: Call,
+    first: &[u8],
+    second: &[u8],
+    sheet: &[u8],
+    lent: &[u8],
+    words: &mut [u32],
+    others: &mut [u32],
+    answer: &mut [u32],
+) -> u32 {
+    let party = call.party;
+    let primary = call.primary;
+    tergyosul::joining::tergyosul_join(
+        first,
+        second,
+        sheet,
+        lent,
+        party,
+        primary,
+        words,
+        others,
+        answer,
+    )
+}
+
+// Reads a rule text as joining does, as values, whose words go to the answer, too.
+pub fn values(
+    call: Call,
+    text: &[u8],
+    sheet: &[u8],
+    lent: &[u8],
+    words: &mut [u32],
+    answer: &mut [u32],
+) -> Answer {
+    let a = reader::read::read(text, sheet, lent, call.party, call.primary, words);
+    flat::put_answer(answer, a);
+    a
 }
 
 // The sheet's own primary adapter; 0 where it names none.

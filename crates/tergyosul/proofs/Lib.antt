@@ -1,3 +1,4 @@
 mod ChainLaws
+mod JoiningLaws
 mod NumberLaws
 mod RoomLaws

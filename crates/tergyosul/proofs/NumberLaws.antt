@@ -1,4 +1,4 @@
--- No answer has the number `noRoom`: the result of `tergyosul_read`, of `tergyosul_read_archive`, of `tergyosul_read_shop` or of `tergyosul_next_chain`
+-- No answer has the number `noRoom`: the result of `tergyosul_read`, of `tergyosul_read_archive`, of `tergyosul_read_shop`, of `tergyosul_join` or of `tergyosul_next_chain`
 -- is that number just where there is no room.
 use Prim.Native.Nat.{ℕ, _<_, _≤_}
 use native.Mathlib.Omega.{arith}
@@ -6,7 +6,7 @@ use mathlib.Core.Path.{_≡_, refl}
 use mathlib.Core.Bool.{Bool, true, false}
 use mathlib.Core.List.{List}
 use lib.ListN.{length}
-use lib.Dec.{ltb}
+use lib.Dec.{ltb, eqb}
 use borrow.Author.Tests.{ltb-true}
 use Rattle.text.specs.Choice.{pick}
 use Rattle.text.specs.Utf8.{Character}
@@ -22,11 +22,16 @@ use Rattle.sheet.specs.Sheet.{Sheet, well-formed, bad-line, sheetCheck}
 use Rattle.sheet.specs.View.{View, seen, ownPrimary}
 use Rattle.sheet.specs.declared.Call.{Call}
 use Rattle.model.specs.Lists.{acceptedWith, refusedWith}
+use Rattle.model.specs.declared.Condition.{Condition}
+use Rattle.model.specs.declared.Answer.{Answer}
 use Rattle.references.proofs.NumberLaws.{Refuses, refusal-most}
 use Rattle.language.proofs.RefusalLaws.{call-refuses}
+use Rattle.language.specs.Limits.{mostTriggers}
 use Rattle.language.specs.Section.{Lists}
-use Rattle.language.specs.Read.{parsed, lexedFrom, byPrimary, byText, bySheet, Outcome, readOf}
+use Rattle.language.specs.Read.{parsed, lexedFrom, byPrimary, byText, bySheet, Outcome, readOf, ruleCall}
 use Rattle.flat.specs.Flat.{answerWords}
+use Rattle.join.specs.Join.{Taken, Join, triggersIn, conditionsIn, joinedTriggers, sameConditions, refusedJoin, acceptedJoin, byCount, bothRead, bySecond, earlierTopics, joinOf}
+use Rattle.join.specs.declared.Joined.{Joined}
 use Rattle.chains.specs.Listed.{chain, refused}
 use Rattle.chains.specs.Way.{following, isStart, nextOf}
 use Rattle.tergyosul.specs.Chains.{chainAnswerWords}
@@ -109,3 +114,47 @@ module _ (call : Call) (text sheet : List ℕ) (lent : List (List ℕ)) (words :
   pub no-room-alone : (answer : List ℕ) → byRoom answerWords answer noRoom (readOf call text sheet lent words .answer .number) ≡ noRoom →
       length answer < answerWords
   no-room-alone answer e = alone answerWords answer _ (let known = read-known in omega arith) e
+
+-- joining says 51 or 52 beside the numbers of two readings
+either-joined : (b : Bool) (x y : Joined) → Known (x .answer .number) → Known (y .answer .number) → Known (pick b x y .answer .number)
+either-joined true x y h k = h
+either-joined false x y h k = k
+
+either-join : (b : Bool) (x y : Join) → Known (x .joined .answer .number) → Known (y .joined .answer .number) → Known (pick b x y .joined .answer .number)
+either-join true x y h k = h
+either-join false x y h k = k
+
+by-count-known : (kept : List Taken) (ys : List Condition) → Known (byCount kept ys .answer .number)
+unfolding byCount refusedJoin acceptedJoin refusedWith acceptedWith
+by-count-known kept ys = either-joined (ltb mostTriggers (length kept)) (refusedJoin 0 (refusedWith 52 0 0 0)) (acceptedJoin kept ys) (omega arith) (omega arith)
+
+both-read-known : (first second : List ℕ) (one two : Answer) → Known (bothRead first second one two .answer .number)
+unfolding bothRead refusedJoin refusedWith
+both-read-known first second one two =
+    let ys = conditionsIn (one .conditions) in
+    let kept = joinedTriggers first second (triggersIn (one .triggers)) (triggersIn (two .triggers)) in
+    either-joined (sameConditions first second ys (conditionsIn (two .conditions))) (byCount kept ys) (refusedJoin 0 (refusedWith 51 0 0 0)) (by-count-known kept ys) (omega arith)
+
+second-known : (first second : List ℕ) (one two : Outcome) → Known (two .answer .number) → Known (bySecond first second one two .joined .answer .number)
+unfolding bySecond refusedJoin
+second-known first second one two h =
+    let a = one .answer in
+    let b = two .answer in
+    either-joined (eqb (b .number) 0) (bothRead first second a b) (refusedJoin 2 b) (both-read-known first second a b) h
+
+module _ (party primary : ℕ) (first second sheet : List ℕ) (lent : List (List ℕ)) (words others : List ℕ) where
+  join-known : Known (joinOf party primary first second sheet lent words others .joined .answer .number)
+  unfolding joinOf refusedJoin
+  join-known =
+      let call = ruleCall party primary in
+      let one = readOf call first sheet lent words in
+      let earlier = earlierTopics first lent (one .answer) in
+      either-join (eqb (one .answer .number) 0) (bySecond first second one (readOf call second sheet earlier others))
+      (record { joined = refusedJoin 1 (one .answer); firstBuffer = one .buffer; secondBuffer = others })
+      (second-known first second one _ (read-known call second sheet earlier others))
+      (read-known call first sheet lent words)
+
+  pub no-join-alone : (answer : List ℕ) →
+      byRoom answerWords answer noRoom (joinOf party primary first second sheet lent words others .joined .answer .number) ≡ noRoom →
+      length answer < answerWords
+  no-join-alone answer e = alone answerWords answer _ (let known = join-known in omega arith) e

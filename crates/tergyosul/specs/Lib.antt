@@ -1,3 +1,4 @@
 pub mod Chains
 pub mod Lexing
 pub mod Room
+pub mod Joining

@@ -1,10 +1,12 @@
 //! A case of the replay format (docs/REPLAY.md): what one call of the reader is given.
 
 mod chain;
+mod join;
 mod lines;
 mod settings;
 
 pub use chain::{pieces, write_start, written, Start, MOST_PIECES, VOCABULARY};
+pub use join::{write_join, Join};
 pub use lines::{fields, lines};
 pub use settings::{own_primary, Habit, Settings};
 
@@ -113,6 +115,8 @@ pub enum Next {
     Case(Case),
     /// A `next` line (document 02 §13).
     Chain(Start),
+    /// A `join` line (document 02 §3).
+    Join(Join),
     End,
     /// The input is not in the replay format.
     Bad,
@@ -173,8 +177,11 @@ pub fn read_case(input: &mut impl BufRead) -> io::Result<Next> {
         return Ok(Next::End);
     }
     let Ok(line) = std::str::from_utf8(&line) else { return Ok(Next::Bad) };
-    if let ["next", id, size, count] = line.trim_end_matches('\n').split(' ').collect::<Vec<_>>()[..] {
-        return chain::read(input, id, size, count);
+    let words: Vec<&str> = line.trim_end_matches('\n').split(' ').collect();
+    match words[..] {
+        ["next", id, size, count] => return chain::read(input, id, size, count),
+        ["join", ref fields @ ..] => return <[&str; 9]>::try_from(fields).map_or(Ok(Next::Bad), |fields| join::read(input, fields)),
+        _ => {}
     }
     let Some(Header { mut case, text, sheet, topics }) = header(line) else { return Ok(Next::Bad) };
     let Some(text) = body(input, text)? else { return Ok(Next::Bad) };
@@ -209,17 +216,19 @@ pub fn write_case(out: &mut impl Write, case: &Case) -> io::Result<()> {
     Ok(())
 }
 
-/// Answers every case of `input` and every start of a chain on `out`, as the replay format orders it.
+/// Answers every case of `input`, every start of a chain and every join on `out`, as the replay format orders it.
 pub fn replay(
     input: &mut impl BufRead,
     out: &mut impl Write,
     answer: impl Fn(&Case) -> String,
     next: impl Fn(&Start) -> String,
+    join: impl Fn(&Join) -> String,
 ) -> io::Result<()> {
     loop {
         match read_case(input)? {
             Next::Case(case) => out.write_all(answer(&case).as_bytes())?,
             Next::Chain(start) => out.write_all(next(&start).as_bytes())?,
+            Next::Join(two) => out.write_all(join(&two).as_bytes())?,
             Next::End => return Ok(()),
             Next::Bad => return out.write_all(b"bad input\n"),
         }

@@ -1,9 +1,9 @@
 //! A replay program, fed through pipes.
 
-use cases::{write_case, Case};
+use cases::{write_case, write_join, Case, Join};
 use std::io::{self, BufWriter, Read};
 use std::path::PathBuf;
-use std::process::{Child, Command, Stdio};
+use std::process::{Child, ChildStdin, Command, Stdio};
 use std::thread;
 
 /// No answer to a batch is longer than this; a program that writes on without end is stopped there.
@@ -14,30 +14,51 @@ pub struct External {
     pub path: PathBuf,
 }
 
+/// The program's input.
+type Input = BufWriter<ChildStdin>;
+
 impl External {
-    /// One answer for each case, in order; an empty one where the program gave none. One process for each call, so
-    /// that memory is bounded by the batch.
+    /// One answer for each case, in order; an empty one where the program gave none.
     pub fn answers(&self, cases: &[Case]) -> io::Result<Vec<String>> {
-        let mut child = Command::new(&self.path).stdin(Stdio::piped()).stdout(Stdio::piped()).spawn()?;
-        let output = exchange(&mut child, cases);
-        if output.is_err() {
-            let _ = child.kill();
-        }
-        child.wait()?;
-        Ok(split_answers(&String::from_utf8_lossy(&output?), cases.len()))
+        self.answers_to(cases.len(), |input| cases.iter().try_for_each(|case| write_case(input, case)))
+    }
+
+    /// The same for joins.
+    pub fn joined(&self, joins: &[Join]) -> io::Result<Vec<String>> {
+        self.answers_to(joins.len(), |input| joins.iter().try_for_each(|join| write_join(input, join)))
     }
 
     /// The answer to one case alone.
     pub fn answer(&self, case: &Case) -> String {
-        match self.answers(std::slice::from_ref(case)) {
-            Ok(mut answers) => answers.pop().unwrap_or_default(),
-            Err(error) => format!("{error}\n"),
+        only(self.answers(std::slice::from_ref(case)))
+    }
+
+    /// The answer to one join alone.
+    pub fn joined_alone(&self, join: &Join) -> String {
+        only(self.joined(std::slice::from_ref(join)))
+    }
+
+    /// So many answers to what `write` writes. One process for each call, so that memory is bounded by the batch.
+    fn answers_to(&self, count: usize, write: impl FnOnce(&mut Input) -> io::Result<()> + Send) -> io::Result<Vec<String>> {
+        let mut child = Command::new(&self.path).stdin(Stdio::piped()).stdout(Stdio::piped()).spawn()?;
+        let output = exchange(&mut child, write);
+        if output.is_err() {
+            let _ = child.kill();
         }
+        child.wait()?;
+        Ok(split_answers(&String::from_utf8_lossy(&output?), count))
     }
 }
 
-/// Writes the cases on a thread of its own while the output is read, so that neither pipe can fill up and stop both.
-fn exchange(child: &mut Child, cases: &[Case]) -> io::Result<Vec<u8>> {
+fn only(answers: io::Result<Vec<String>>) -> String {
+    match answers {
+        Ok(mut answers) => answers.pop().unwrap_or_default(),
+        Err(error) => format!("{error}\n"),
+    }
+}
+
+/// Writes the input on a thread of its own while the output is read, so that neither pipe can fill up and stop both.
+fn exchange(child: &mut Child, write: impl FnOnce(&mut Input) -> io::Result<()> + Send) -> io::Result<Vec<u8>> {
     let (Some(input), Some(output)) = (child.stdin.take(), child.stdout.take()) else {
         return Err(io::Error::other("the replay program has no pipes"));
     };
@@ -45,7 +66,7 @@ fn exchange(child: &mut Child, cases: &[Case]) -> io::Result<Vec<u8>> {
         scope.spawn(move || {
             // A program that stops reading shows in its answers, so a broken pipe needs no word here.
             let mut input = BufWriter::new(input);
-            let _ = cases.iter().try_for_each(|case| write_case(&mut input, case));
+            let _ = write(&mut input);
         });
         let mut bytes = Vec::new();
         let length = output.take(MOST_OUTPUT).read_to_end(&mut bytes)? as u64;

@@ -1,5 +1,6 @@
 //! What a case covered, read off its answer in the replay format, and off its text for what the answer does not say.
 
+use crate::batches::Counts;
 use crate::{days, durations, layout, parties, profile, records, repeats, sheets, topics};
 use cases::Case;
 use std::io::{self, Write};
@@ -8,21 +9,24 @@ const TOKENS: &[&str] = &[
     "1", "2", "3", "4", "5", "6", "7", "8", "9", "10", "11", "12", "13", "14", "15", "16", "17", "18", "19", "20", "21", "22",
 ];
 
-/// The refusals of document 01, without 5 to 9 and 14, and of document 02.
-const REFUSALS: &[&str] = &[
+/// The refusals of a call: of document 01, without 5 to 9 and 14, and of document 02.
+pub const REFUSALS: &[&str] = &[
     "1", "2", "3", "4", "10", "11", "12", "13", "15", "16", "17", "18", "19", "20", "21", "22", "23", "24", "25", "26", "27",
     "28", "29", "30", "31", "32", "33", "34", "35", "36", "37", "38", "39", "40", "41", "50", "53", "57", "58", "59", "63", "64",
     "65", "66",
 ];
 
-const TRIGGERS: &[&str] = &[
+/// Those among them that only a shop call gives.
+pub const OF_THE_PROFILE: &[&str] = &["57", "58", "59"];
+
+pub const TRIGGERS: &[&str] = &[
     "input_event", "input_occupancy", "input_light_cross", "input_position_change", "input_device_power_cycled",
     "input_device_manual_config_changed", "at_time", "at_solar", "every", "lamp_turns", "lamp_level_cross",
     "group_becomes", "scene_recalled", "device_online", "hcl_override", "timer_fires", "controller_starts",
     "controller_becomes_active", "rule_fails", "http_trigger", "mqtt",
 ];
 
-const CONDITIONS: &[&str] = &[
+pub const CONDITIONS: &[&str] = &[
     "time_in_range", "day_in", "sun_is", "lamp_is", "lamp_level", "lamp_cct", "group_state", "input_occupancy", "input_light",
     "hcl_state", "device_online", "rule_enabled", "last_fired_older_than", "timer_running", "controller_active",
     "var_compare",
@@ -235,6 +239,19 @@ impl Default for Coverage {
     }
 }
 
+impl Counts for Coverage {
+    fn merge(&mut self, other: &Coverage) {
+        self.counts.iter_mut().zip(&other.counts).for_each(|(a, b)| *a += b);
+        self.layouts.iter_mut().zip(&other.layouts).for_each(|(a, b)| *a += b);
+        self.cases += other.cases;
+        self.in_domain += other.in_domain;
+        self.accepted += other.accepted;
+        self.refused += other.refused;
+        self.beside += other.beside;
+        self.reflowed += other.reflowed;
+    }
+}
+
 impl Coverage {
     pub fn add(&mut self, case: &Case, answer: &str, in_domain: bool) {
         let set = Features::of(case, answer);
@@ -251,17 +268,6 @@ impl Coverage {
         let shown = |sort: &&str| sorts.iter().any(|shown| shown == sort);
         layout::SORTS.iter().zip(&mut self.layouts).for_each(|(sort, count)| *count += u64::from(shown(sort)));
         self.reflowed += 1;
-    }
-
-    pub fn merge(&mut self, other: &Coverage) {
-        self.counts.iter_mut().zip(&other.counts).for_each(|(a, b)| *a += b);
-        self.layouts.iter_mut().zip(&other.layouts).for_each(|(a, b)| *a += b);
-        self.cases += other.cases;
-        self.in_domain += other.in_domain;
-        self.accepted += other.accepted;
-        self.refused += other.refused;
-        self.beside += other.beside;
-        self.reflowed += other.reflowed;
     }
 
     /// The names of what no case showed.

@@ -1,10 +1,12 @@
 //! The comparison of readers on generated cases: finding the first difference, making it small, and counting what
 //! the cases covered.
 
+pub mod batches;
 mod days;
 mod durations;
 pub mod external;
 pub mod features;
+pub mod joins;
 mod layout;
 pub mod options;
 mod parties;

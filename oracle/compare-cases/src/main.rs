@@ -1,9 +1,11 @@
 //! Compares the supplied Rust, the second reader and a replay program on generated cases. Exit 0 means that they
 //! agree and that everything was covered, 1 that not, 2 that the run itself failed.
 
-use cases::{first_line, write_case, Case};
+use cases::{first_line, write_case, write_join, Case, Join};
+use compare_cases::batches::Counts;
 use compare_cases::external::External;
 use compare_cases::features::Coverage;
+use compare_cases::joins::{coverage as of_joins, run as joining};
 use compare_cases::options::{self, Options, Stored, Vectors};
 use compare_cases::readers::{quiet_panics, Other, Readers};
 use compare_cases::run::{run, smallest, Difference, Outcome, Plan};
@@ -42,7 +44,7 @@ fn plan<'a>(options: &Options, make: &'a (dyn Fn(u64) -> Case + Sync), count: u6
     Plan { make, count, batch: options.batch, threads: options.threads, progress: true }
 }
 
-/// The generated cases, then the exhaustive ones; true if nothing differed and nothing was left uncovered.
+/// The generated cases and joins, then the exhaustive cases; true if nothing differed and nothing was left uncovered.
 fn compare(options: &Options, readers: &Readers) -> io::Result<bool> {
     let mut coverage = Coverage::default();
     let generated = |index| generate::case(options.seed, options.from + index);
@@ -50,6 +52,7 @@ fn compare(options: &Options, readers: &Readers) -> io::Result<bool> {
     if !part(options, readers, &plan(options, &generated, options.cases), &mut coverage)? {
         return Ok(false);
     }
+    let Some(of_joins) = compare_joins(options, readers)? else { return Ok(false) };
     for length in 0..=options.exhaustive.unwrap_or(0) {
         let count = if options.exhaustive.is_some() { generate::exhaustive_count(length) } else { 0 };
         let make = |index| generate::exhaustive_case(length, index);
@@ -60,12 +63,62 @@ fn compare(options: &Options, readers: &Readers) -> io::Result<bool> {
             return Ok(false);
         }
     }
-    coverage.print(&mut io::stdout())?;
-    let zeros = coverage.zeros();
+    let mut zeros = Vec::new();
+    if coverage.cases > 0 || of_joins.joins == 0 {
+        coverage.print(&mut io::stdout())?;
+        zeros.extend(coverage.zeros());
+    }
+    if of_joins.joins > 0 {
+        of_joins.print(&mut io::stdout())?;
+        zeros.extend(of_joins.zeros());
+    }
     if !zeros.is_empty() {
         println!("not covered: {}", zeros.join(", "));
     }
     Ok(zeros.is_empty() || options.allow_zero)
+}
+
+/// The joins; nothing if some differ.
+fn compare_joins(options: &Options, readers: &Readers) -> io::Result<Option<of_joins::Coverage>> {
+    let make = |index| generate::join(options.seed, options.from + index);
+    if options.joins > 0 {
+        eprintln!("{} joins of seed {} from {}", options.joins, options.seed, options.from);
+    }
+    joins_part(options, readers, &make, options.joins)
+}
+
+fn joins_part(options: &Options, readers: &Readers, make: &(dyn Fn(u64) -> Join + Sync), count: u64) -> io::Result<Option<of_joins::Coverage>> {
+    let plan = Plan { make, count, batch: options.batch, threads: options.threads, progress: true };
+    let readers = joining::Readers { join: &second::join, call: readers.second, replay: readers.replay.clone() };
+    match joining::run(&plan, &readers)? {
+        joining::Outcome::Same(coverage) => Ok(Some(coverage)),
+        joining::Outcome::Different(difference) => {
+            report_join(options, &readers, &difference)?;
+            Ok(None)
+        }
+    }
+}
+
+/// Prints the smallest join found on which two readers differ, and both answers.
+fn report_join(options: &Options, readers: &joining::Readers, difference: &joining::Difference) -> io::Result<()> {
+    println!("{} differs from the second reader on join {}; making it smaller", difference.other.name(), difference.join.id);
+    if !difference.alone {
+        println!("on that join alone it does not: those before it in the batch matter");
+    }
+    let small = joining::smallest(difference, readers);
+    let Join { texts, sheet, topics, .. } = &small.join;
+    println!("{}", small.join.first_line());
+    println!("{}\n{}\n{}", texts[0].escape_ascii(), texts[1].escape_ascii(), sheet.escape_ascii());
+    if !topics.is_empty() {
+        println!("{}", topics.escape_ascii());
+    }
+    if small.other == joining::Other::Beside {
+        println!("beside it\n{}", joining::beside(&small.join).sheet.escape_ascii());
+    }
+    println!("--- the second reader\n{}", readers.join(&small.join));
+    println!("--- {}\n{}", small.other.name(), small.answer);
+    let Some(path) = &options.smallest else { return Ok(()) };
+    write_join(&mut File::create(path)?, &small.join)
 }
 
 fn part(options: &Options, readers: &Readers, plan: &Plan, coverage: &mut Coverage) -> io::Result<bool> {
@@ -129,9 +182,13 @@ fn store(options: &Options, chosen: &[Case], input: &str, output: &str, readers:
     if !part(options, readers, &plan(options, &again, chosen.len() as u64), &mut Coverage::default())? {
         return Ok(false);
     }
-    let starts = generate::chains::starts(second::chains());
-    vectors::write(chosen, &starts, input, output, readers.second)?;
-    println!("{} cases written, and {} starts of chains", chosen.len(), starts.len());
+    let (starts, joins) = (generate::chains::starts(second::chains()), generate::stored_joins());
+    let join_again = |index| joins[index as usize].clone();
+    if joins_part(options, readers, &join_again, joins.len() as u64)?.is_none() {
+        return Ok(false);
+    }
+    vectors::write(chosen, &starts, &joins, input, output, readers.second)?;
+    println!("{} cases written, {} starts of chains and {} joins", chosen.len(), starts.len(), joins.len());
     let short = vectors::short_of(chosen, readers.second);
     if !short.is_empty() {
         println!("too few cases for: {}", short.join(", "));

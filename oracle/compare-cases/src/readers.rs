@@ -74,9 +74,14 @@ pub fn quiet_panics() {
 
 /// A reader's answer, or the line `panicked`.
 pub fn guarded(reader: Reader, case: &Case) -> String {
-    GUARDED.set(true);
-    let answer = panic::catch_unwind(AssertUnwindSafe(|| reader(case)));
-    GUARDED.set(false);
+    guard(|| reader(case))
+}
+
+/// The same of any answer.
+pub fn guard(answer: impl FnOnce() -> String) -> String {
+    let before = GUARDED.replace(true);
+    let answer = panic::catch_unwind(AssertUnwindSafe(answer));
+    GUARDED.set(before);
     answer.unwrap_or_else(|_| "panicked\n".to_string())
 }
 

@@ -1,5 +1,6 @@
-//! A run over many cases, in batches, on one thread or more.
+//! A run over many cases: what is compared for each.
 
+use crate::batches::{in_batches, Found};
 use crate::features::Coverage;
 use crate::layout;
 use crate::readers::{past_question_3, refused_as_repeat, under_the_profile, Other, Readers};
@@ -8,19 +9,8 @@ use crate::shrink::{shrink, shrink_text};
 use cases::{Case, Habit};
 use generate::Rng;
 use std::io;
-use std::sync::atomic::{AtomicU64, Ordering};
-use std::thread;
 
-/// The cases of a run: `make(0)` to `make(count - 1)`.
-pub struct Plan<'a> {
-    pub make: &'a (dyn Fn(u64) -> Case + Sync),
-    pub count: u64,
-    /// Cases that are held in memory at once, and that one process of the replay program gets.
-    pub batch: u64,
-    pub threads: u64,
-    /// Whether progress goes to standard error.
-    pub progress: bool,
-}
+pub use crate::batches::Plan;
 
 /// A case on which two readers differ.
 #[derive(Debug, Clone)]
@@ -41,76 +31,11 @@ impl Difference {
     }
 }
 
-#[derive(Debug)]
-pub enum Outcome {
-    Same(Coverage),
-    Different(Difference),
-}
+pub type Outcome = Found<Coverage, Difference>;
 
 /// Compares every case of the plan, and gives the difference with the lowest number if there is one.
 pub fn run(plan: &Plan, readers: &Readers) -> io::Result<Outcome> {
-    let shared = Shared { stop: AtomicU64::new(u64::MAX), done: AtomicU64::new(0) };
-    let threads = plan.threads.max(1);
-    let results: Vec<_> = thread::scope(|scope| {
-        let workers: Vec<_> = (0..threads).map(|nth| {
-            let shared = &shared;
-            scope.spawn(move || work(plan, readers, nth, shared))
-        }).collect();
-        workers.into_iter().map(|worker| worker.join().expect("a worker does not panic")).collect()
-    });
-    let mut coverage = Coverage::default();
-    let mut first: Option<(u64, Difference)> = None;
-    for result in results {
-        let (part, found) = result?;
-        coverage.merge(&part);
-        if let Some((batch, difference)) = found {
-            if first.as_ref().is_none_or(|(lowest, _)| batch < *lowest) {
-                first = Some((batch, difference));
-            }
-        }
-    }
-    Ok(first.map_or(Outcome::Same(coverage), |(_, difference)| Outcome::Different(difference)))
-}
-
-/// What the threads of a run tell each other.
-struct Shared {
-    /// The lowest batch with a difference so far: no thread goes on past it.
-    stop: AtomicU64,
-    done: AtomicU64,
-}
-
-type Part = (Coverage, Option<(u64, Difference)>);
-
-/// Every `threads`-th batch, from the one numbered `nth` on.
-fn work(plan: &Plan, readers: &Readers, nth: u64, shared: &Shared) -> io::Result<Part> {
-    let mut coverage = Coverage::default();
-    let mut batch = nth;
-    while batch * plan.batch < plan.count && batch < shared.stop.load(Ordering::Relaxed) {
-        let start = batch * plan.batch;
-        let cases: Vec<Case> = (start..plan.count.min(start + plan.batch)).map(plan.make).collect();
-        match compare(&cases, readers, &mut coverage) {
-            Ok(None) => {}
-            Ok(Some(difference)) => {
-                shared.stop.fetch_min(batch, Ordering::Relaxed);
-                return Ok((coverage, Some((batch, difference))));
-            }
-            Err(error) => {
-                shared.stop.store(0, Ordering::Relaxed);
-                return Err(error);
-            }
-        }
-        tell(plan, shared, cases.len() as u64);
-        batch += plan.threads.max(1);
-    }
-    Ok((coverage, None))
-}
-
-fn tell(plan: &Plan, shared: &Shared, more: u64) {
-    const STEP: u64 = 100_000;
-    let before = shared.done.fetch_add(more, Ordering::Relaxed);
-    if plan.progress && before / STEP != (before + more) / STEP {
-        eprintln!("{} of {} cases", before + more, plan.count);
-    }
+    in_batches(plan, &|cases: &[Case], coverage: &mut Coverage| compare(cases, readers, coverage))
 }
 
 /// Compares the cases of one batch, in order. The replay program gets the sheets beside theirs too, and must give the same, and the

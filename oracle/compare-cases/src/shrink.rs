@@ -1,6 +1,6 @@
 //! Making a case small while it still shows what it showed.
 
-use cases::{Case, LEAST_WORDS as USUAL_WORDS};
+use cases::{Case, Join, LEAST_WORDS as USUAL_WORDS};
 
 type Split = fn(&[u8]) -> Vec<&[u8]>;
 
@@ -36,6 +36,72 @@ pub fn shrink(case: &Case, tries: usize, shows: &mut dyn FnMut(&Case) -> bool) -
             return best;
         }
     }
+}
+
+/// Joins that are easier to read: with the usual buffers, of party 0, and on a sheet without others or without rows.
+const PLAINER_JOINS: [fn(&Join) -> Join; 4] = [
+    |join| Join { words: [USUAL_WORDS; 2], ..join.clone() },
+    |join| Join { party: 0, primary: 0, ..join.clone() },
+    |join| {
+        let rows: Vec<&[u8]> = lines(&join.sheet).into_iter().filter(|row| !row.starts_with(b"party,")).collect();
+        Join { party: 0, primary: 0, sheet: rows.concat(), ..join.clone() }
+    },
+    |join| Join { party: 0, primary: 0, sheet: b"primary,0\n".to_vec(), ..join.clone() },
+];
+
+/// The same for a join: both texts, the sheet and the topics.
+pub fn shrink_join(join: &Join, tries: usize, shows: &mut dyn FnMut(&Join) -> bool) -> Join {
+    let mut left = tries;
+    let mut shows = |join: &Join| {
+        left = left.saturating_sub(1);
+        left > 0 && shows(join)
+    };
+    let weight = |join: &Join| join.texts[0].len() + join.texts[1].len() + join.sheet.len() + join.topics.len();
+    let mut best = join.clone();
+    loop {
+        let size = weight(&best);
+        for plainer in PLAINER_JOINS {
+            let plainer = plainer(&best);
+            if plainer != best && weight(&plainer) <= weight(&best) && shows(&plainer) {
+                best = plainer;
+            }
+        }
+        for nth in (0..CONDITIONS).rev() {
+            let texts = [0, 1].map(|text| without_condition(&best.texts[text], nth));
+            let shorter = Join { texts, ..best.clone() };
+            if shorter != best && shows(&shorter) {
+                best = shorter;
+            }
+        }
+        for split in [lines as Split, bytes] {
+            best.sheet = drop_pieces(&best.sheet, split, &mut |sheet| shows(&Join { sheet: sheet.to_vec(), ..best.clone() }));
+            best.topics = drop_pieces(&best.topics, split, &mut |topics| shows(&Join { topics: topics.to_vec(), ..best.clone() }));
+        }
+        for (nth, split) in [0, 1].into_iter().flat_map(|nth| TEXT_SPLITS.map(|split| (nth, split))) {
+            best.texts[nth] = drop_pieces(&best.texts[nth], split, &mut |text| {
+                let mut shorter = best.clone();
+                shorter.texts[nth] = text.to_vec();
+                shows(&shorter)
+            });
+        }
+        if weight(&best) == size {
+            return best;
+        }
+    }
+}
+
+/// The most conditions of a text.
+const CONDITIONS: usize = 4;
+
+/// A text without its condition `nth`, if it has one, so that two texts can lose the same one.
+fn without_condition(text: &[u8], nth: usize) -> Vec<u8> {
+    let clauses = clauses(text);
+    let word = |clause: &[u8]| tokens(clause).first().map_or(0, |token| token.len());
+    let first = clauses.iter().position(|clause| clause[..word(clause)].trim_ascii_end() == b"if").unwrap_or(clauses.len());
+    let (front, conditions) = clauses.split_at(first);
+    let left = conditions.iter().enumerate().filter(|(at, _)| *at != nth).map(|(_, clause)| &clause[word(clause)..]);
+    let words = [&b"if "[..]].into_iter().chain(std::iter::repeat(&b"and "[..]));
+    words.zip(left).fold(front.concat(), |text, (word, clause)| [&text[..], word, clause].concat())
 }
 
 /// A text as small as dropping its pieces makes it, in the same way.

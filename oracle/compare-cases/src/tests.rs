@@ -1,3 +1,4 @@
+use crate::batches::Counts;
 use crate::external::split_answers;
 use crate::features::{feature_count, feature_name, Coverage, Features, MOST_FEATURES};
 use crate::layout;

@@ -9,6 +9,7 @@ pub mod durations;
 mod exhaustive;
 mod grammar;
 mod isolation;
+mod joins;
 mod large;
 mod line_ends;
 mod parties;
@@ -28,9 +29,10 @@ mod tests;
 
 pub use exhaustive::{exhaustive, exhaustive_case, exhaustive_count};
 pub use isolation::beside;
+pub use joins::{join, join_of_a_rule, WRONG_TEXTS};
 pub use large::landmarks;
 pub use reflow::{gaps, joins, reflowed, span};
-pub use requests::{requests, LAYOUTS};
+pub use requests::{requests, stored_joins, LAYOUTS};
 pub use respell::respelled;
 pub use rng::Rng;
 

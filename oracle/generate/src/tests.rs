@@ -46,6 +46,21 @@ fn every_case_fits_the_replay_format() {
 }
 
 #[test]
+fn joins_follow_from_their_seed_and_fit_the_replay_format() {
+    for index in (0..MANY / 4).chain([u64::MAX]) {
+        let made = join(SEED, index);
+        assert_eq!(made.id, index);
+        assert!(made.words.iter().all(|&words| words <= MOST_WORDS));
+        assert!([&made.texts[0], &made.texts[1], &made.sheet, &made.topics].iter().all(|bytes| bytes.len() <= MOST_BYTES), "{index}");
+        if index % 16 == 0 {
+            assert_eq!(made, join(SEED, index));
+            assert_ne!(made, join(SEED + 1, index));
+        }
+    }
+    assert!(stored_joins().iter().all(|join| well_formed(&join.sheet) || !join.sheet.starts_with(b"primary,0\nadapter")));
+}
+
+#[test]
 fn every_kind_of_token_is_written() {
     assert_eq!(never(MANY, parts(&[WORDS, SIGNS, TIMES, DURATIONS, DECIMALS])), Vec::<String>::new());
 }

@@ -6,6 +6,7 @@ mod chains;
 mod conditions;
 mod days;
 mod durations;
+mod join;
 mod lexer;
 mod model;
 mod print;
@@ -20,6 +21,7 @@ mod triggers;
 mod values;
 
 pub use chains::{chains, next};
+pub use join::join;
 
 use buffer::Buffer;
 use cases::{Case, Habit, Lexing, LEAST_WORDS};
@@ -88,8 +90,14 @@ fn lexing_with(records: Vec<[u32; cases::RECORD]>, number: u32, place: Place) ->
     Lexing { records, number, line: place.line, column: place.column }
 }
 
-/// One call: the questions 1 to 4 and 53, the lexing of the whole text, then the parsing, then the profile if the call has it.
+/// One call.
 fn read(case: &Case) -> Outcome<'_> {
+    read_behind(case, Topics::lent(case.topics()))
+}
+
+/// One call behind these topics: the questions 1 to 4 and 53, the lexing of the whole text, then the parsing, then the profile if the
+/// call has it.
+fn read_behind<'a>(case: &'a Case, topics: Topics<'a>) -> Outcome<'a> {
     let mut buffer = Buffer::new(case.words);
     let (view, text) = match admit(case, &buffer) {
         Ok(admitted) => admitted,
@@ -97,7 +105,7 @@ fn read(case: &Case) -> Outcome<'_> {
     };
     let lexed = lexer::lex(text);
     buffer.write(&lexed.tokens);
-    let given = Given { sheet: view, topics: Topics::lent(case.topics()), repeats: repeats(case) };
+    let given = Given { sheet: view, topics, repeats: repeats(case) };
     let formerly_17 = lexed.formerly_17;
     let end = match lexed.end {
         Ok(end) => end,

@@ -2,16 +2,17 @@
 
 use crate::buffer::Buffer;
 use crate::days::Days;
+use crate::join::{Joined, Refused};
 use crate::model::*;
 use crate::reader::Read;
+use crate::refusal::Refusal;
 
 /// The answer to one case.
 pub fn answer(id: u64, buffer: &Buffer, result: &Read<Lists>) -> String {
     let mut lines = vec![format!("case {id}")];
-    lines.extend(buffer.records().into_iter().map(token));
-    lines.push(format!("buffer {}", if buffer.kept() { "kept" } else { "changed" }));
+    lines.extend(left_in(buffer));
     match result {
-        Err(r) => lines.push(format!("refused {} {} {} {}", r.number, r.place.line, r.place.column, r.detail)),
+        Err(r) => lines.push(format!("refused {}", refusal(r))),
         Ok(lists) => {
             lines.push(format!("accepted {} {}", lists.triggers.len(), lists.conditions.len()));
             lines.extend(lists.triggers.iter().map(|t| format!("T {}", trigger(t))));
@@ -19,6 +20,32 @@ pub fn answer(id: u64, buffer: &Buffer, result: &Read<Lists>) -> String {
         }
     }
     lines.iter().map(|line| format!("{line}\n")).collect()
+}
+
+/// The answer to one join (document 02 §3): what both buffers hold, then the refusal with the text that it is of, or each entry with the
+/// text that it is taken from.
+pub fn joined(id: u64, buffers: [&Buffer; 2], result: &Result<Joined, Refused>) -> String {
+    let mut lines = vec![format!("case {id}")];
+    lines.extend(buffers.into_iter().flat_map(left_in));
+    match result {
+        Err(r) => lines.push(format!("refused {} {}", r.which, refusal(&r.refusal))),
+        Ok(lists) => {
+            lines.push(format!("accepted {} {}", lists.triggers.len(), lists.conditions.len()));
+            lines.extend(lists.triggers.iter().map(|(from, t)| format!("T {from} {}", trigger(t))));
+            lines.extend(lists.conditions.iter().map(|(from, c)| format!("C {from} {}", condition(c))));
+        }
+    }
+    lines.iter().map(|line| format!("{line}\n")).collect()
+}
+
+/// The token lines of a buffer and its `buffer` line.
+fn left_in(buffer: &Buffer) -> Vec<String> {
+    let kept = format!("buffer {}", if buffer.kept() { "kept" } else { "changed" });
+    buffer.records().into_iter().map(token).chain([kept]).collect()
+}
+
+fn refusal(r: &Refusal) -> String {
+    format!("{} {} {} {}", r.number, r.place.line, r.place.column, r.detail)
 }
 
 /// "A token line gives line and column apart, however the record holds them."

@@ -20,6 +20,12 @@ impl<'a> Topics<'a> {
         Topics { named: bytes.split(|&b| b == b'\n').filter(|line| !line.is_empty()).collect() }
     }
 
+    /// "Joining (the first text's topics count as earlier for the second)."
+    pub fn and_earlier(mut self, topics: impl Iterator<Item = &'a [u8]>) -> Topics<'a> {
+        self.named.extend(topics);
+        self
+    }
+
     /// 66, at the word `mqtt`: "a new topic when eight or more others stand named".
     pub fn name(&mut self, topic: &'a [u8], mqtt: Place) -> Read<()> {
         if self.named.len() >= MOST_DIFFERENT && !self.named.contains(topic) {

@@ -9,11 +9,12 @@ fn cases_one_after_the_other() {
     let first = cases::Case { id: 7, ..case(b"when http trigger", b"primary,0") };
     cases::write_case(&mut input, &first).unwrap();
     cases::write_case(&mut input, &cases::Case { id: 8, ..case(b"", b"") }).unwrap();
-    input.extend_from_slice(b"next 9 15 3\n1 3 7\nend\n");
+    input.extend_from_slice(b"next 9 15 3\n1 3 7\njoin 10 5120 5119 0 0 17 4 9 0\nwhen http trigger\nwhen\nprimary,0\n\nend\n");
     let mut out = Vec::new();
-    cases::replay(&mut &input[..], &mut out, second::answer, second::next).unwrap();
+    cases::replay(&mut &input[..], &mut out, second::answer, second::next, second::join).unwrap();
     let expected = "case 7\ntoken 1 0 0 4 1 1\ntoken 1 0 5 4 1 6\ntoken 1 0 10 7 1 11\nbuffer kept\naccepted 1 0\n\
                     T http_trigger\ncase 8\nbuffer kept\nrefused 3 1 0 0\n\
-                    case 9\nbuffer kept\nchain 1 3 8\nbad input\n";
+                    case 9\nbuffer kept\nchain 1 3 8\ncase 10\ntoken 1 0 0 4 1 1\ntoken 1 0 5 4 1 6\n\
+                    token 1 0 10 7 1 11\nbuffer kept\nbuffer kept\nrefused 2 2 0 0 0\nbad input\n";
     assert_eq!(String::from_utf8(out).unwrap(), expected);
 }

@@ -4,7 +4,9 @@ use std::io::{self, BufWriter, Write};
 
 fn main() -> io::Result<()> {
     let mut out = BufWriter::new(io::stdout().lock());
-    let no_generator = |start: &cases::Start| format!("case {}\noutside the domain\n", start.id);
-    cases::replay(&mut io::stdin().lock(), &mut out, supplied::answer, no_generator)?;
+    let outside = |id: u64| format!("case {id}\noutside the domain\n");
+    let no_generator = |start: &cases::Start| outside(start.id);
+    let no_join = |join: &cases::Join| outside(join.id);
+    cases::replay(&mut io::stdin().lock(), &mut out, supplied::answer, no_generator, no_join)?;
     out.flush()
 }

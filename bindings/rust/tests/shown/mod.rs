@@ -231,3 +231,16 @@ pub fn rule(rule: &Rule, text: &[u8]) -> String {
     }
     out
 }
+
+/// The same of two texts joined, with the number of the text of each entry.
+pub fn joined(joined: &Joined, first: &[u8], second: &[u8]) -> String {
+    let (triggers, conditions) = (joined.triggers(), joined.conditions());
+    let mut out = format!("accepted {} {}\n", triggers.count(), conditions.count());
+    for (t, text) in joined.triggers() {
+        out += &format!("T {} {}\n", text as u32 + 1, trigger(t, text.of(first, second)));
+    }
+    for (c, text) in joined.conditions() {
+        out += &format!("C {} {}\n", text as u32 + 1, condition(c, text.of(first, second)));
+    }
+    out
+}

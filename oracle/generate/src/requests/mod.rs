@@ -1,10 +1,12 @@
 //! Fixed cases for the requests of document 02, to be stored behind the sample of document 01.
 
 mod days;
+mod joins;
 mod layout;
 mod profile;
 mod sheets;
 
+pub use joins::joins as stored_joins;
 pub use layout::LAYOUTS;
 
 use cases::{Case, Habit, Settings, FORMER_LEAST_WORDS, LEAST_WORDS, MOST_TOKENS, MOST_WORDS};

@@ -1,0 +1,2 @@
+pub mod SameLaws
+mod RowLaws
