@@ -2,7 +2,7 @@
 -- The words of the entries without their names are the same (flat/specs/Flat.antt), and so are their names, byte for byte. `same-trigger` and `same-condition`
 -- (proofs/SameLaws.antt) show that it says yes exactly for entries of readings that are the same, so that nothing here need be believed.
 use Prim.Native.Nat.{ℕ}
-use mathlib.Core.List.{List, []}
+use mathlib.Core.List.{List}
 use mathlib.Core.Bool.{Bool, false}
 use lib.ListN.{getD}
 use Rattle.text.specs.Choice.{pick}

@@ -1,7 +1,7 @@
 -- The whole call, step by step.
 use Prim.Native.Nat.{ℕ, zero, suc, _+_, _≤_}
 use mathlib.Core.Path.{_≡_, _∙_, refl, ap, sym, subst}
-use mathlib.Core.List.{List, [], _∷_, _++_, map}
+use mathlib.Core.List.{List, [], _∷_, _++_, map, map-append}
 use mathlib.Core.Bool.{Bool, true, false, not}
 use native.Mathlib.Omega.{arith}
 use lib.ListN.{length, take, length-append}
@@ -33,7 +33,7 @@ use Rattle.join.specs.Kept.{mostKept, keptOf, namesBy, topicNames, topic
 use Rattle.join.specs.declared.Joined.{Joined}
 use Rattle.join.specs.declared.Kept.{Kept}
 use Rattle.join.specs.declared.Topics.{Topics}
-use Rattle.join.proofs.RowLaws.{map-append, in-use-long, padded-front}
+use Rattle.join.proofs.RowLaws.{in-use-long, padded-front}
 use Rattle.join.proofs.KeptLaws.{all-both}
 use Rattle.join.specs.Joining.{Exact-join}
 use Rattle.join.proofs.Theorem.{exact-join}

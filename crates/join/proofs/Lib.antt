@@ -9,3 +9,4 @@ pub mod Theorem
 pub mod OnceLaws
 pub mod ItselfLaws
 pub mod TurnLaws
+pub mod IsolationLaws

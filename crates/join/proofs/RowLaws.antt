@@ -9,10 +9,6 @@ use lib.Seq.{drop-cons}
 use Rattle.model.specs.Lists.{padded}
 
 module _ {A B : Type 0} where
-  pub map-append : (f : A → B) (xs ys : List A) → map f (xs ++ ys) ≡ map f xs ++ map f ys
-  map-append f [] ys = refl
-  map-append f (x ∷ xs) ys = ap (f x ∷_) (map-append f xs ys)
-
   -- the entries in use of an array of rows
   pub in-use-long : (f : A → B) (rows : List A) (n : ℕ) → n ≤ length rows → length (map f (take n rows)) ≡ n
   in-use-long f rows zero h = refl

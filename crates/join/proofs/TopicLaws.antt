@@ -18,7 +18,7 @@ use Rattle.flat.specs.Flat.{noTrigger}
 use Rattle.join.specs.Join.{triggersIn}
 use Rattle.join.specs.Kept.{mostKept, namesBy, topicNames, topicsHeld, Of-topics}
 use Rattle.join.specs.declared.Topics.{Topics}
-use Rattle.join.proofs.RowLaws.{in-use-on, padded-more, map-append}
+use Rattle.join.proofs.RowLaws.{in-use-on, padded-more}
 
 words-more : (names : List Name) (n : Name) → rangeWords (names ++ n ∷ []) ≡ (rangeWords names ++ n .start ∷ []) ++ n .length ∷ []
 unfolding rangeWords

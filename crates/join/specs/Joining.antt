@@ -6,6 +6,8 @@ use mathlib.Core.Path.{_≡_}
 use mathlib.Core.List.{List, [], _∷_, _++_}
 use lib.ListN.{length}
 use Rattle.tokens.specs.Lexing.{leastWords}
+use Rattle.sheet.specs.Sheet.{well-formed, sheetCheck}
+use Rattle.sheet.specs.Party.{Agree}
 use Rattle.topics.specs.Ranges.{nameIn}
 use Rattle.model.specs.Lists.{refusedWith}
 use Rattle.model.specs.declared.Trigger.{Trigger}
@@ -15,7 +17,7 @@ use Rattle.language.specs.Topics.{topicsOf}
 use Rattle.language.specs.Read.{Outcome, readOf, ruleCall}
 use Rattle.language.specs.Demand.{Has-reading}
 use Rattle.language.specs.Same.{Same-trigger, Same-conditions}
-use Rattle.join.specs.Join.{Taken, takenFrom, textOf, acceptedJoin, refusedJoin, Join}
+use Rattle.join.specs.Join.{Taken, takenFrom, textOf, acceptedJoin, refusedJoin, Join, joinOf}
 use Rattle.join.specs.declared.Joined.{Joined}
 
 -- a list, and what is left of it when some entries are left out
@@ -142,3 +144,10 @@ module _ (party primary : ℕ) (first second sheet : List ℕ) (lent : List (Lis
         join ≡ record { joined = refusedJoin 2 (readSecond xs .answer); firstBuffer = readFirst .buffer; secondBuffer = readSecond xs .buffer }
     pub unrefused : {xs us : List Trigger} {ys vs : List Condition} → Both-read party primary first second sheet lent (length words) (length others) xs us ys vs →
         Unrefused join xs
+
+-- §6, "For two accepted sheets that agree on which adapters are the party's, and on those adapters' rows in their order …, the party's call gives the same answer":
+-- the answer of joining, and every word of both buffers
+abbrev pub Isolated-join : Type 0
+Isolated-join =
+    (party primary : ℕ) (first second s t : List ℕ) (lent : List (List ℕ)) (words others : List ℕ) → sheetCheck s ≡ well-formed → sheetCheck t ≡ well-formed →
+    Agree party s t → joinOf party primary first second s lent words others ≡ joinOf party primary first second t lent words others
