@@ -1,9 +1,9 @@
 // `rules chains`: every short chain of conditions, one a line (document 02, §13).
-use crate::out;
-use crate::split;
 use tergyosul::chain::CHAIN_WORDS;
 use tergyosul::chain::COUNT;
 use tergyosul::chain::FIRST_PIECE;
+use wording::out;
+use wording::split;
 
 // The longest chain.
 const MOST_PIECES: usize = CHAIN_WORDS - FIRST_PIECE;

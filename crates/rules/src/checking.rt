@@ -1,17 +1,17 @@
 // `rules check RULES SHEET`, with perhaps options: both lists in plain words, or one diagnostic.
 use crate::diagnose;
-use crate::files;
-use crate::files::Loaded;
-use crate::layout;
-use crate::options;
-use crate::options::Options;
-use crate::out;
 use crate::reading;
-use crate::rows;
-use crate::say;
-use crate::seen;
 use sheet::Call;
 use sheet::Habit;
+use wording::files;
+use wording::files::Loaded;
+use wording::layout;
+use wording::options;
+use wording::options::Options;
+use wording::out;
+use wording::rows;
+use wording::say;
+use wording::seen;
 
 // Is a row in use? Rows 1 to 4 are for triggers, 5 to 8 for conditions.
 pub fn is_used(answer: &[u32], row: u32) -> bool {

@@ -1,13 +1,13 @@
 // `rules same A B`: whether two rules have the same tokens, or where the first difference is, or one diagnostic. With the same tokens all calls read both
 // alike (`layout-changes-nothing`, crates/language/proofs/ReflowTheorem.antt).
 use crate::diagnose;
-use crate::files;
-use crate::layout;
-use crate::out;
 use crate::reading;
-use crate::say;
-use crate::source;
-use crate::stands;
+use wording::files;
+use wording::layout;
+use wording::out;
+use wording::say;
+use wording::source;
+use wording::stands;
 
 // Where a token begins, or a text ends.
 struct Place {

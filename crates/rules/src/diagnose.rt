@@ -1,18 +1,18 @@
 // The whole diagnostic of a refusal: its place, what is wrong, the line, what stands and what belongs there, and a way out.
 use crate::expected;
-use crate::fault;
-use crate::fault::Fault;
 use crate::help;
-use crate::layout;
-use crate::out;
 use crate::reading;
-use crate::say;
-use crate::sheet_fault;
-use crate::source;
-use crate::stands;
-use crate::title;
 use sheet::Call;
 use sheet::Habit;
+use wording::fault;
+use wording::fault::Fault;
+use wording::layout;
+use wording::out;
+use wording::say;
+use wording::sheet_fault;
+use wording::source;
+use wording::stands;
+use wording::title;
 
 // The count of the text's tokens; 0 if it cannot be cut into tokens.
 fn token_count(text: &[u8], words: &mut [u32]) -> usize {

@@ -1,19 +1,19 @@
 // What may stand at a place of a rule. The reader itself is asked: the text before the place with a candidate behind it is read anew,
 // by the call that refused the rule, and the candidate belongs there unless it is refused itself. No topics are lent for that: they have no part in it,
 // and 66 would come before the candidate.
-use crate::fault::Fault;
-use crate::items;
-use crate::items::END;
-use crate::layout;
-use crate::marks;
-use crate::near;
-use crate::out;
 use crate::reading;
-use crate::source;
-use crate::split;
-use crate::trial;
 use sheet::Call;
 use sheet::profile;
+use wording::fault::Fault;
+use wording::items;
+use wording::items::END;
+use wording::layout;
+use wording::marks;
+use wording::near;
+use wording::out;
+use wording::source;
+use wording::split;
+use wording::trial;
 
 // Is a candidate, which begins the line `line`, taken by the reader? It is if it is not refused itself, or only for its value (22, 25, 35, 36).
 // Refusals below 20 say nothing of it. A 30 says that the candidate needs one instance where there is a group; only `)` just meets it.

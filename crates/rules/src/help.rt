@@ -1,12 +1,12 @@
 // The way out of each refusal, in one line.
-use crate::day;
-use crate::fault::Fault;
-use crate::forms;
-use crate::lookup;
-use crate::out;
 use crate::range;
-use crate::shop;
-use crate::topic;
+use wording::day;
+use wording::fault::Fault;
+use wording::forms;
+use wording::lookup;
+use wording::out;
+use wording::shop;
+use wording::topic;
 
 // By the number of the refusal.
 fn of_uncut(number: u32) {

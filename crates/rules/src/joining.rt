@@ -2,16 +2,16 @@
 use crate::checking;
 use crate::diagnose;
 use crate::entries;
-use crate::files;
-use crate::layout;
-use crate::options;
-use crate::options::Options;
-use crate::out;
 use crate::reading;
-use crate::say;
-use crate::seen;
-use crate::source;
 use sheet::Call;
+use wording::files;
+use wording::layout;
+use wording::options;
+use wording::options::Options;
+use wording::out;
+use wording::say;
+use wording::seen;
+use wording::source;
 
 // The line of a row that is in use, behind a name.
 fn named(text: &[u8], sheet: &[u8], answer: &[u32], name: &[u8], row: u32) {

@@ -1,11 +1,11 @@
 // `rules tokens RULES`: one line for each token, or one diagnostic.
 use crate::diagnose;
-use crate::files;
-use crate::layout;
-use crate::out;
 use crate::reading;
-use crate::say;
-use crate::stands;
+use wording::files;
+use wording::layout;
+use wording::out;
+use wording::say;
+use wording::stands;
 
 fn place(words: &[u32], i: usize) {
     let row = [

@@ -2,41 +2,17 @@
 mod chain_list;
 mod checking;
 mod comparing;
-mod day;
 mod diagnose;
 mod entries;
 mod expected;
-mod fault;
-mod files;
-mod forms;
 mod help;
-mod inputs;
-mod items;
 mod joining;
-mod layout;
 mod listing;
-mod lookup;
-mod marks;
-mod near;
-mod options;
-mod out;
-mod parts;
 mod range;
 mod reading;
-mod reference;
-mod rows;
-mod say;
-mod seen;
-mod sheet_fault;
-mod sheets;
-mod shop;
-mod source;
-mod split;
-mod stands;
-mod title;
-mod topic;
-mod trial;
-mod value;
+
+use wording::options;
+use wording::out;
 
 fn usage() {
     out::bytes(

@@ -1,11 +1,11 @@
 // The range of a number that is out of it. The reader itself is asked: the text is read anew, by the call that refused it, with another number in its
 // place. No topics are lent for that: they have no part in it.
-use crate::fault::Fault;
-use crate::layout;
-use crate::out;
 use crate::reading;
-use crate::split;
-use crate::trial;
+use wording::fault::Fault;
+use wording::layout;
+use wording::out;
+use wording::split;
+use wording::trial;
 
 // Puts the text with a number in the place of what stands from an offset to another. It stands on a line of its own.
 fn put(trial: &mut [u8], text: &[u8], from: usize, behind: usize, number: &[u8]) -> usize {
