@@ -1,7 +1,7 @@
 // Entries compared as document 02 §3 says: by record, names and other strings by bytes. Nothing is copied: a name is a part of the text in which it stands.
 use flat::codes;
 use flat::conditions;
-use flat::rows::ROW_WORDS;
+use flat::rows;
 use flat::rows::Row;
 use flat::triggers;
 use model::Condition;
@@ -175,20 +175,6 @@ pub fn condition_entry(y: Condition) -> Entry
     entry_at(row, first_name_at(row), second_name_at(row))
 }
 
-// Are two rows the same?
-fn same_rows(x: Row, y: Row) -> bool
-    ensures { λ r. ⌜ r ≡ sameBytes x y ⌝ }
-{
-    let mut i = 0;
-    while i < ROW_WORDS {
-        if x[i] != y[i] {
-            return false;
-        }
-        i += 1;
-    }
-    true
-}
-
 // Are two names the same, of which x stands in a and y in b?
 fn same_names(a: &[u8], x: Name, b: &[u8], y: Name) -> bool
     ensures { λ r. ⌜ r ≡ sameBytes (nameIn (now (a .entry)) x) (nameIn (now (b .entry)) y) ⌝ }
@@ -207,7 +193,7 @@ pub fn same_entry(a: &[u8], x: Entry, b: &[u8], y: Entry) -> bool
 {
     let of_x = x.row;
     let of_y = y.row;
-    if !same_rows(of_x, of_y) {
+    if !rows::same_rows(of_x, of_y) {
         return false;
     }
     if !same_names(a, x.first, b, y.first) {

@@ -6,6 +6,7 @@ use model::Name;
 use model::Ref;
 ghost use mathlib.Core.Path.{_≡_};
 ghost use mathlib.Core.List.{[], _∷_, _++_};
+ghost use Rattle.text.specs.Part.{sameBytes};
 ghost use Rattle.flat.specs.Flat.{refWords, inputWords, nameWords, targetWords, wholeRow, rowSet};
 
 pub const ROW_WORDS: usize = 12;
@@ -74,4 +75,18 @@ pub fn of_target(kind: u32, to: LightTarget, a: u32) -> Row
 {
     let t = parts::light_target(to);
     [kind, t.0, t.1, t.2, a, 0, 0, 0, 0, 0, 0, 0]
+}
+
+// Are two rows the same?
+pub fn same_rows(x: Row, y: Row) -> bool
+    ensures { λ r. ⌜ r ≡ sameBytes x y ⌝ }
+{
+    let mut i = 0;
+    while i < ROW_WORDS {
+        if x[i] != y[i] {
+            return false;
+        }
+        i += 1;
+    }
+    true
 }

@@ -8,9 +8,9 @@ use lib.Seq.{drop-cons}
 use borrow.Author.Needs.{needs}
 use borrow.Author.Tests.{eq-eqb, ne-eqb}
 use Rattle.text.specs.Part.{sameBytes}
 use Rattle.flat.specs.Flat.{rowWords}
-use Rattle.compare.proofs.same_rows.Statement.{statement}
-use Rattle.compare.proofs.same_rows.Tie as tie
+use Rattle.flat.proofs.rows.same_rows.Statement.{statement}
+use Rattle.flat.proofs.rows.same_rows.Tie as tie
 
 -- whether the rows are the same from here on is whether the whole rows are, which is start
 module _ (x y : List ℕ) (i : ℕ) {start : Bool} (here : sameBytes (drop i x) (drop i y) ≡ start) where

@@ -1,0 +1,3 @@
+mod HeldLaws
+mod NumberLaws
+pub mod RowLaws
