@@ -44,13 +44,13 @@ use Rattle.language.proofs.WordLaws.{Named-phrase, named-phrase, named-
 use Rattle.language.proofs.TopicLaws.{topic-at-sound}
 use Rattle.language.proofs.SameLaws.{Alike, alike-ok, alike-no, alike-step, alike-knowing, alike-bind, alike-pick, alikes}
 
-abbrev shownReading : List ℕ → Reading → Shown Reading
+abbrev pub shownReading : List ℕ → Reading → Shown Reading
 shownReading text x = shownIn text (readingParts x)
 
-abbrev shownValue : List ℕ → Value → Shown Value
+abbrev pub shownValue : List ℕ → Value → Shown Value
 shownValue text x = shownIn text (valueParts x)
 
-abbrev shownOperand : List ℕ → Operand → Shown Operand
+abbrev pub shownOperand : List ℕ → Operand → Shown Operand
 shownOperand text x = shownIn text (operandParts x)
 
 -- a quoted name is a string
@@ -61,34 +61,34 @@ phrase-string : {t : ℕ → Tok} {list : List ℕ} {i n j : ℕ} → Named-phra
 phrase-string (named-phrase h p) = quoted-string h
 
 -- one name, with the same bytes
-one-name : {A : Type 0} (bare : A) {x y : List ℕ} → x ≡ y → _≡_ {A = Shown A} (record { bare = bare; names = x ∷ [] }) (record { bare = bare; names = y ∷ [] })
+pub one-name : {A : Type 0} (bare : A) {x y : List ℕ} → x ≡ y → _≡_ {A = Shown A} (record { bare = bare; names = x ∷ [] }) (record { bare = bare; names = y ∷ [] })
 one-name {A} bare e = ap (λ (x : List ℕ). record { bare = bare; names = x ∷ [] }) e
 
 -- the names of a part
-within : {A B : Type 0} (f : A → B) {p r : Shown A} → p ≡ r →
+pub within : {A B : Type 0} (f : A → B) {p r : Shown A} → p ≡ r →
     _≡_ {A = Shown B} (record { bare = f (p .bare); names = p .names }) (record { bare = f (r .bare); names = r .names })
 within {A} {B} f e = ap (λ (p : Shown A). record { bare = f (p .bare); names = p .names }) e
 
 module _ (a b : List ℕ) where
-  reads-shown : (x y : Reading) (d : Delta) → shownReading a x ≡ shownReading b y → shownValue a (Reads x d) ≡ shownValue b (Reads y d)
+  pub reads-shown : (x y : Reading) (d : Delta) → shownReading a x ≡ shownReading b y → shownValue a (Reads x d) ≡ shownValue b (Reads y d)
   unfolding valueParts
   reads-shown x y d e = within (λ z. Reads z d) e
 
-  number-shown : (x y : Value) → shownValue a x ≡ shownValue b y → shownOperand a (Operand.Number x) ≡ shownOperand b (Operand.Number y)
+  pub number-shown : (x y : Value) → shownValue a x ≡ shownValue b y → shownOperand a (Operand.Number x) ≡ shownOperand b (Operand.Number y)
   unfolding operandParts
   number-shown x y e = within Operand.Number e
 
-  lamp-shown : (r : Ref) (p : LampProperty) (c : Comparison) (x y : Value) → shownValue a x ≡ shownValue b y →
+  pub lamp-shown : (r : Ref) (p : LampProperty) (c : Comparison) (x y : Value) → shownValue a x ≡ shownValue b y →
       shownCondition a (Condition.LampCompare r p c x) ≡ shownCondition b (Condition.LampCompare r p c y)
   unfolding shownCondition conditionParts
   lamp-shown r p c x y e = within (λ z. Condition.LampCompare r p c z) e
 
-  light-shown : (r : InputRef) (way : Crossing) (x y : Value) → shownValue a x ≡ shownValue b y →
+  pub light-shown : (r : InputRef) (way : Crossing) (x y : Value) → shownValue a x ≡ shownValue b y →
       shownCondition a (Condition.InputLight r way x) ≡ shownCondition b (Condition.InputLight r way y)
   unfolding shownCondition conditionParts
   light-shown r way x y e = within (λ z. Condition.InputLight r way z) e
 
-  var-shown : (n m : Name) (c : Comparison) (x y : Operand) → nameIn a n ≡ nameIn b m → shownOperand a x ≡ shownOperand b y →
+  pub var-shown : (n m : Name) (c : Comparison) (x y : Operand) → nameIn a n ≡ nameIn b m → shownOperand a x ≡ shownOperand b y →
       shownCondition a (Condition.VarCompare n c x) ≡ shownCondition b (Condition.VarCompare m c y)
   unfolding shownCondition conditionParts
   var-shown n m c x y e f =

@@ -179,7 +179,7 @@ unfolding tokens bytesOf kindAt numberAt wordAt
 none-seen text words i h = rw (le-ltb i (capacity words) h)
 
 -- a string's name has its bytes
-string-bytes : (text words : List ℕ) (n : ℕ) → tokens text words n .kind ≡ STRING → nameIn text (rangeOf words n) ≡ tokens text words n .bytes
+pub string-bytes : (text words : List ℕ) (n : ℕ) → tokens text words n .kind ≡ STRING → nameIn text (rangeOf words n) ≡ tokens text words n .bytes
 unfolding tokens bytesOf nameIn rangeOf bytesAt
 string-bytes text words n e = rw e
 

@@ -37,7 +37,7 @@ none false false true e = absurd (omega arith)
 none false false false e = (refl, refl, refl)
 
 -- bytes that get no number are a topic
-topic-sound : (topic : List ℕ) → topicNumber topic ≡ 0 → Topic topic
+pub topic-sound : (topic : List ℕ) → topicNumber topic ≡ 0 → Topic topic
 topic-sound topic e =
     let p = none (eqb (length topic) 0) (forbidden topic) (ltb longestName (length topic)) (sym (by-tests topic) ∙ e) in
     let some = eqb-false (length topic) 0 (p .0) in

@@ -147,7 +147,7 @@ pub bytes : {s : List ℕ} {p n : Place} {c : ℕ} → Stepped s p c n → Bytes
 bytes {s} {p} t = bytes-by t refl (stands s (p .at))
 
 -- a character below 128 is one byte, which is its code point
-one-byte : {u : List ℕ} {c : ℕ} → Utf8-char u c → c < 0x80 → u ≡ c ∷ []
+pub one-byte : {u : List ℕ} {c : ℕ} → Utf8-char u c → c < 0x80 → u ≡ c ∷ []
 one-byte (utf8-1 a) h = refl
 one-byte (utf8-2 a b) h = absurd (omega arith)
 one-byte (utf8-3-E0 a b c) h = absurd (omega arith)

@@ -392,7 +392,7 @@ sized {shape} {ds} r f =
     told (ltb mostRun (value ds)) (λ h. (refuse 12, Judged.large r (ltb-true mostRun (value ds) h)))
     (λ h. f (ltb-false mostRun (value ds) h))
 
-integer-small : {ds : List ℕ} → value ds ≤ mostRun → (rs : List ℕ) → Digit-run (Shape.integer ds) rs → value rs ≤ mostRun
+pub integer-small : {ds : List ℕ} → value ds ≤ mostRun → (rs : List ℕ) → Digit-run (Shape.integer ds) rs → value rs ≤ mostRun
 integer-small h rs Digit-run.integer = h
 
 time-small : {hs ms : List ℕ} → value hs ≤ mostRun → value ms ≤ mostRun → (rs : List ℕ) → Digit-run (Shape.time hs ms) rs → value rs ≤ mostRun
@@ -403,7 +403,7 @@ decimal-small : {ws fs : List ℕ} → value ws ≤ mostRun → value fs ≤ mos
 decimal-small h k rs Digit-run.decimal-whole = h
 decimal-small h k rs Digit-run.decimal-fraction = k
 
-amount-small : {ws fs us : List ℕ} → value ws ≤ mostRun → value fs ≤ mostRun → (rs : List ℕ) → Digit-run (Shape.amount ws fs us) rs →
+pub amount-small : {ws fs us : List ℕ} → value ws ≤ mostRun → value fs ≤ mostRun → (rs : List ℕ) → Digit-run (Shape.amount ws fs us) rs →
     value rs ≤ mostRun
 amount-small h k rs Digit-run.amount-whole = h
 amount-small h k rs Digit-run.amount-fraction = k

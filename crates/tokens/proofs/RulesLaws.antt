@@ -39,7 +39,7 @@ unfolding octetsOf
 four-octets c h = rw (le-ltb c 0x80 (omega arith), le-ltb c 0x800 (omega arith), le-ltb c 0x10000 h)
 
 -- a character has as many octets as its range says
-char-octets : {u : List ℕ} {c : ℕ} → Utf8-char u c → length u ≡ octetsOf c
+pub char-octets : {u : List ℕ} {c : ℕ} → Utf8-char u c → length u ≡ octetsOf c
 unfolding octetsOf
 char-octets (utf8-1 {a} h) = rw (lt-ltb a 0x80 (omega arith))
 char-octets (utf8-2 {a} {b} h k) = two-octets (a % 32 * 64 + b % 64) (omega arith) (omega arith)

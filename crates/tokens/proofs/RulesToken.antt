@@ -80,7 +80,7 @@ unfolding tokenAt
 word-at c s p n h =
     rw (ne-eqb c 0x22 (λ e. omega (arith, start-low c h)), digit-high c (omega (arith, start-low c h)), h)
 
-start-part : (c : ℕ) → isWordStart c ≡ true → isWordPart c ≡ true
+pub start-part : (c : ℕ) → isWordStart c ≡ true → isWordPart c ≡ true
 unfolding isWordPart
 start-part c h = rw h
 
@@ -192,7 +192,7 @@ number-at : (c : ℕ) (s : List ℕ) (p n : Place) → isDigit c ≡ true → to
 unfolding tokenAt
 number-at c s p n h = rw (ne-eqb c 0x22 (λ e. omega (arith, digit-low c h)), h)
 
-run-all : {class : ℕ → Bool} {cs : List ℕ} → Run class cs → All class cs
+pub run-all : {class : ℕ → Bool} {cs : List ℕ} → Run class cs → All class cs
 run-all (run h a) = All.more h a
 
 number-small : {s : List ℕ} {p q : Place} {ds r : List ℕ} {x : Lexeme} → Run isDigit ds → Reads s p q ds → Left s q r → Stops isDigit r →

@@ -421,8 +421,8 @@ token-mode : (c : ℕ) {r : Bool} → r ≡ isWhite c → not r ≡ true → (c 
 unfolding triviaMode
 token-mode c {r} e h n = rw (← e, not-true r h, ne-eqb c 0x23 n)
 
--- no ASCII character above # is white space
-not-white : {c : ℕ} → 0x24 ≤ c → c < 0x80 → false ≡ isWhite c
+-- no ASCII character above the space is white space
+pub not-white : {c : ℕ} → 0x20 < c → c < 0x80 → false ≡ isWhite c
 unfolding isWhite whiteSpace among
 not-white {c} h k =
     over-range 0x9 0xD c true (among (drop 1 whiteSpace) c) (omega arith)
@@ -533,7 +533,7 @@ module _ (s : List ℕ) (at line column : ℕ) {start : Place} (i : trivia 0 (pl
   pub trivia-end : {r : Bool} → r ≡ pick (ltb b 0x24) false (ltb b 0x80) → r ≡ true → place at line column ≡ start
   trivia-end f h =
       let k = token-start f h in
-      trivia-here (byte-any s at e (k .1) line column) 0 (token-mode b (not-white (k .0) (k .1)) refl (λ x. omega arith)) refl ∙ i
+      trivia-here (byte-any s at e (k .1) line column) 0 (token-mode b (not-white (omega arith) (k .1)) refl (λ x. omega arith)) refl ∙ i
 
   pub trivia-on : {up : ℕ} → b ≡ 0x20 → up ≡ counted (column + 1) → trivia 0 (place (at + 1) line up) (chars s (at + 1)) ≡ start
   trivia-on h u = trivia-step (byte-step s at e (omega arith) line column (λ x. omega arith) u) 0 (space-mode h) (λ x. omega arith) ∙ i

@@ -42,7 +42,7 @@ spelled-duration (Spelled.duration a) e = a
 spelled-duration (Spelled.decimal a b c d f) e = absurd (omega arith)
 spelled-duration (Spelled.symbol a) e = absurd (let k = symbol-kind a in omega arith)
 
-all-on : {class : ℕ → Bool} {cs ds : List ℕ} → All class cs → All class ds → All class (cs ++ ds)
+pub all-on : {class : ℕ → Bool} {cs ds : List ℕ} → All class cs → All class ds → All class (cs ++ ds)
 all-on All.none b = b
 all-on (All.more h a) b = All.more h (all-on a b)
 

@@ -1,1 +1,3 @@
-pub mod Examples
+pub mod MadeLaws
+pub mod RuleLaws
+pub mod WriteLaws

@@ -1,0 +1,1 @@
+// What is written reads back: laws alone, with no code.

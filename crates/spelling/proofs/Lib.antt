@@ -1,0 +1,6 @@
+pub mod PutLaws
+pub mod FormLaws
+pub mod NumberLaws
+pub mod SignedLaws
+pub mod WeekLaws
+pub mod PartLaws

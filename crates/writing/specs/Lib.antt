@@ -1,0 +1,5 @@
+pub mod Pieces
+pub mod Write
+pub mod Possible
+pub mod Reached
+pub mod Writing
