@@ -107,9 +107,19 @@ enum tergyosul_origin {
 #define TERGYOSUL_MOST_PIECES 15
 
 /*
+ * The length of an answer of tergyosul_write: number, line, column, detail, and in word TERGYOSUL_WRITE_LENGTH how many
+ * bytes are written.
+ */
+#define TERGYOSUL_WRITE_WORDS 5
+#define TERGYOSUL_WRITE_LENGTH 4
+
+/* The least length of the bytes that are lent to tergyosul_write for the text. With fewer the answer is refusal 54. */
+#define TERGYOSUL_LEAST_BYTES 4096
+
+/*
  * The result of a call whose answer is too short: shorter than TERGYOSUL_ANSWER_WORDS, of tergyosul_lex than
- * TERGYOSUL_LEX_WORDS, of tergyosul_next_chain than TERGYOSUL_CHAIN_WORDS. If answer is too short, nothing is read and
- * nothing is written. No refusal has this number.
+ * TERGYOSUL_LEX_WORDS, of tergyosul_write than TERGYOSUL_WRITE_WORDS, of tergyosul_next_chain than
+ * TERGYOSUL_CHAIN_WORDS. If answer is too short, nothing is read and nothing is written. No refusal has this number.
  */
 #define TERGYOSUL_NO_ROOM 4294967295u
 
@@ -318,6 +328,42 @@ uint32_t tergyosul_join(const uint8_t *first, size_t first_length,
                         uint32_t *words, size_t words_length,
                         uint32_t *others, size_t others_length,
                         uint32_t *answer, size_t answer_length);
+
+/*
+ * Writes the two lists of a rule out as a text. lists are the words of an accepted answer of tergyosul_read or
+ * tergyosul_join, or words laid out like these: the counts and the texts of the entries in row 0, and the rows of entries.
+ * The names of an entry stand in first or in second, as row 0 says by TERGYOSUL_FIRST and TERGYOSUL_SECOND; 0 counts as
+ * TERGYOSUL_FIRST, so that for an answer of tergyosul_read first is the text that was read, and second may have the length
+ * 0. Rows past a count, and the other words of row 0, are not looked at; a word past the end of lists counts as 0.
+ *
+ * What tergyosul_read gives of the text that is written, with the same sheet, party and primary and no topics, has the
+ * same lists, but for where names and other strings stand: their bytes are the same. Between two tokens there is one space,
+ * none at either end. References are numbers, with `adapter` only where the adapter is not primary; arguments of `input` are
+ * named, and types are numbers. A duration above 1,000,000,000 ms is in seconds with three places, any other in ms. Days are
+ * written singly from mon, behind a time only if they are fewer than seven.
+ *
+ * The result is 0, or the number of the refusal, or TERGYOSUL_NO_ROOM. The text goes to the front of out, and its length to
+ * answer, 0 with a refusal; the other bytes of out, all of them with a refusal, are left as they are, and so are the words
+ * of answer behind the first TERGYOSUL_WRITE_WORDS. No text is too long for TERGYOSUL_LEAST_BYTES. The column and the
+ * detail of a refusal are 0; it is the first of
+ *
+ *   3    the sheet is not well formed; the line is its first bad one
+ *   53   primary is not the party's, at 0:0
+ *   54   out is shorter than TERGYOSUL_LEAST_BYTES, at 0:0
+ *   55   there are no triggers, or more than four, or more than four conditions, at 0:0; else an entry that no text gives,
+ *        whatever its sheet: words that are no entry's row, a text other than the two, a name outside its text or of bytes
+ *        that such a name cannot have, a number out of its range
+ *   56   an entry whose adapter would be written and is not listed for the party, or a broadcast not on primary
+ *
+ * For 55 and 56 the line is the ordinal of the first such entry, from 1, the conditions behind the triggers.
+ */
+uint32_t tergyosul_write(const uint8_t *first, size_t first_length,
+                         const uint8_t *second, size_t second_length,
+                         const uint8_t *sheet, size_t sheet_length,
+                         uint8_t party, uint8_t primary,
+                         const uint32_t *lists, size_t lists_length,
+                         uint8_t *out, size_t out_length,
+                         uint32_t *answer, size_t answer_length);
 
 /*
  * The sheet's own primary adapter, which its first line names: 0 to 255, and 0 where it names none. A call that is to go

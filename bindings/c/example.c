@@ -1,12 +1,12 @@
 /*
- * Reads a rule with its name sheet and says what it has, or joins two rules.
+ * Reads a rule with its name sheet and says what it has, or writes it out again, or joins two rules.
  *
- *   example [--shop] RULE SHEET [TOPICS] [PARTY PRIMARY]
+ *   example [--shop | --write] RULE SHEET [TOPICS] [PARTY PRIMARY]
  *   example --join RULE RULE SHEET [TOPICS] [PARTY PRIMARY]
  *
  * under the shop profile, or else as any rule, with the topics of earlier rules, one a line, or else with none, and for a
- * party with its own primary adapter, or else for party 0 with the sheet's.
- * The exit status is 0 if the rule is accepted, 1 if it is refused, 2 for wrong usage or a file that cannot be read.
+ * party with its own primary adapter, or else for party 0 with the sheet's. Joined rules are written out as one, too.
+ * The exit status is 0 if the rule is accepted and written, 1 if it is refused, 2 for wrong usage or a file that cannot be read.
  */
 #include <stdio.h>
 #include <string.h>
@@ -24,6 +24,8 @@ static uint8_t topics[ROOM];
 static uint32_t words[TERGYOSUL_TOKEN_WORDS];
 static uint32_t others[TERGYOSUL_TOKEN_WORDS];
 static uint32_t answer[TERGYOSUL_ANSWER_WORDS];
+static uint8_t out[TERGYOSUL_LEAST_BYTES];
+static uint32_t written[TERGYOSUL_WRITE_WORDS];
 
 /* The lengths of what is loaded, and whose call it is. */
 static size_t text_length, second_length, sheet_length, topics_length;
@@ -279,6 +281,22 @@ static void put_tokens(const uint32_t *records)
            (unsigned long)TERGYOSUL_COLUMN(place));
 }
 
+/* What was read, as a text. The result is 1 if it cannot be written: a name may stand on an adapter that is not listed. */
+static int put_text(void)
+{
+    const uint32_t number =
+        tergyosul_write(text, text_length, second, second_length, sheet, sheet_length, party, primary, answer,
+                        TERGYOSUL_ANSWER_WORDS, out, TERGYOSUL_LEAST_BYTES, written, TERGYOSUL_WRITE_WORDS);
+
+    if (number != 0) {
+        printf("not written: number %lu, entry %lu\n", (unsigned long)number, (unsigned long)written[1]);
+        return 1;
+    }
+    fwrite(out, 1, written[TERGYOSUL_WRITE_LENGTH], stdout);
+    putchar('\n');
+    return 0;
+}
+
 /* The refusal, with the rule of two that is refused, if it is one of them alone. */
 static void put_refusal(void)
 {
@@ -319,18 +337,19 @@ static uint32_t read_rule(int is_shop)
 int main(int count, char **arguments)
 {
     const int is_shop = count > 1 && strcmp(arguments[1], "--shop") == 0;
+    const int is_write = count > 1 && strcmp(arguments[1], "--write") == 0;
     const int is_join = count > 1 && strcmp(arguments[1], "--join") == 0;
     int has_party, has_topics;
     uint32_t number;
 
     /* from here on the option and the second rule are not counted */
-    count -= is_shop + 2 * is_join;
-    arguments += is_shop + 2 * is_join;
+    count -= is_shop + is_write + 2 * is_join;
+    arguments += is_shop + is_write + 2 * is_join;
     has_party = count >= 5;
     has_topics = count == 4 || count == 6;
     if (count < 3 || count > 6 ||
         (has_party && (!byte_of(arguments[count - 2], &party) || !byte_of(arguments[count - 1], &primary)))) {
-        fprintf(stderr, "usage: example [--shop] RULE SHEET [TOPICS] [PARTY PRIMARY]\n"
+        fprintf(stderr, "usage: example [--shop | --write] RULE SHEET [TOPICS] [PARTY PRIMARY]\n"
                         "       example --join RULE RULE SHEET [TOPICS] [PARTY PRIMARY]\n");
         return 2;
     }
@@ -351,10 +370,14 @@ int main(int count, char **arguments)
         put_refusal();
         return 1;
     }
+    if (is_write) {
+        return put_text();
+    }
     put_entries();
     put_tokens(words);
     if (is_join) {
         put_tokens(others);
+        return put_text();
     }
     return 0;
 }

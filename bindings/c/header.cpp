@@ -2,6 +2,7 @@
 #include "tergyosul.h"
 
 #include <cstdint>
+#include <string>
 #include <vector>
 
 std::uint32_t triggers_of(const std::vector<std::uint8_t> &text, const std::vector<std::uint8_t> &sheet,
@@ -40,4 +41,17 @@ std::uint32_t first_piece_behind(const std::vector<std::uint8_t> &chain)
     const std::uint32_t number = tergyosul_next_chain(chain.empty() ? &nothing : chain.data(), chain.size(), answer,
                                                       TERGYOSUL_CHAIN_WORDS);
     return number == 0 ? answer[TERGYOSUL_CHAIN_PIECES] : number;
+}
+
+std::string text_of(const std::vector<std::uint8_t> &text, const std::vector<std::uint8_t> &sheet,
+                    const std::uint32_t *lists)
+{
+    static const std::uint8_t nothing = 0;
+    std::vector<std::uint8_t> out(TERGYOSUL_LEAST_BYTES);
+    std::uint32_t answer[TERGYOSUL_WRITE_WORDS] = {0};
+    const std::uint32_t number = tergyosul_write(text.empty() ? &nothing : text.data(), text.size(), &nothing, 0,
+                                                 sheet.empty() ? &nothing : sheet.data(), sheet.size(), 0, 0, lists,
+                                                 TERGYOSUL_ANSWER_WORDS, out.data(), out.size(), answer,
+                                                 TERGYOSUL_WRITE_WORDS);
+    return number == 0 ? std::string(out.begin(), out.begin() + answer[TERGYOSUL_WRITE_LENGTH]) : std::string();
 }

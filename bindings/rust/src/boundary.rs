@@ -7,13 +7,13 @@
 //! - Each points to as many elements of its type as the length says. `usize` is C's `size_t`, `u8` and `u32` are its
 //!   `uint8_t` and `uint32_t`, and a slice's pointer is aligned. A party and an adapter are a `u8`, so neither is cut.
 //! - The elements were written before: those of a slice are initialised. The library writes whole words, so they stay so.
-//! - An array that is written is apart from all the others: `words`, `others` and `answer` are borrowed mutably, so none
-//!   overlaps another, a text, the sheet or the topics. These, which are only read, may be the same bytes.
+//! - An array that is written is apart from all the others: `words`, `others`, `out` and `answer` are borrowed mutably, so
+//!   none overlaps another, a text, the sheet, the topics or the lists. These, which are only read, may be the same bytes.
 //!
 //! The library has no state, so it keeps no pointer after it returns. That it stays within the slices and returns from every
 //! call is proved. The declarations below are the header's.
 
-use crate::Call;
+use crate::{Call, Party};
 
 extern "C" {
     fn tergyosul_read(
@@ -76,6 +76,23 @@ extern "C" {
         words_length: usize,
         others: *mut u32,
         others_length: usize,
+        answer: *mut u32,
+        answer_length: usize,
+    ) -> u32;
+
+    fn tergyosul_write(
+        first: *const u8,
+        first_length: usize,
+        second: *const u8,
+        second_length: usize,
+        sheet: *const u8,
+        sheet_length: usize,
+        party: u8,
+        primary: u8,
+        lists: *const u32,
+        lists_length: usize,
+        out: *mut u8,
+        out_length: usize,
         answer: *mut u32,
         answer_length: usize,
     ) -> u32;
@@ -181,6 +198,35 @@ pub fn join(
             words.len(),
             others.as_mut_ptr(),
             others.len(),
+            answer.as_mut_ptr(),
+            answer.len(),
+        )
+    }
+}
+
+pub fn write(
+    [first, second]: [&[u8]; 2],
+    sheet: &[u8],
+    party: Party,
+    lists: &[u32],
+    out: &mut [u8],
+    answer: &mut [u32],
+) -> u32 {
+    // SAFETY: as above: six slices that are borrowed for the call, the two mutable ones apart from all others.
+    unsafe {
+        tergyosul_write(
+            first.as_ptr(),
+            first.len(),
+            second.as_ptr(),
+            second.len(),
+            sheet.as_ptr(),
+            sheet.len(),
+            party.number,
+            party.primary,
+            lists.as_ptr(),
+            lists.len(),
+            out.as_mut_ptr(),
+            out.len(),
             answer.as_mut_ptr(),
             answer.len(),
         )

@@ -1,7 +1,7 @@
 //! Two rules joined.
 
 use crate::rule::MOST;
-use crate::{answer_of, boundary, layout, Call, Condition, Refusal, Rule, Trigger};
+use crate::{answer_of, boundary, layout, written, Call, Condition, Party, Refusal, Rule, Trigger, Written, ANSWER_WORDS};
 use core::fmt;
 
 /// One of the two texts of [`join`].
@@ -49,6 +49,36 @@ impl Joined {
     /// The conditions, which both texts have; they are taken from the first, where their names stand.
     pub fn conditions(&self) -> impl Iterator<Item = (Condition, Text)> + '_ {
         self.rule.conditions().iter().map(|condition| (*condition, Text::First))
+    }
+
+    /// The words of the joined rule, with the text of each entry: what [`write`](crate::write) takes.
+    pub fn words(&self) -> &[u32; ANSWER_WORDS] {
+        self.rule.words()
+    }
+
+    /// The two rules written out as one, as [`write`](crate::write) does, with a sheet and for a party; the names are taken from
+    /// the texts that were joined.
+    ///
+    /// ```
+    /// use tergyosul::{Party, TOKEN_WORDS};
+    ///
+    /// let first = b"when timer(\"Close\") fires if sun is down";
+    /// let second = b"when timer(\"Close\") fires when mqtt \"till/open\" if sun is down";
+    /// let sheet = b"primary,0\n";
+    /// let party = Party::of_sheet(sheet);
+    /// let [mut words, mut others] = [[0; TOKEN_WORDS]; 2];
+    ///
+    /// let joined = tergyosul::join(first, second, sheet, party, &mut words, &mut others)?;
+    /// let written = joined.written(first, second, sheet, party).expect("it was read so");
+    /// assert_eq!(written.to_string(), "when timer ( \"Close\" ) fires when mqtt \"till/open\" if sun is down");
+    /// # Ok::<(), tergyosul::JoinRefusal>(())
+    /// ```
+    ///
+    /// # Panics
+    ///
+    /// As [`write`](crate::write).
+    pub fn written(&self, first: &[u8], second: &[u8], sheet: &[u8], party: Party) -> Result<Written, Refusal> {
+        written::kept(self.words(), [first, second], sheet, party)
     }
 }
 

@@ -4,10 +4,9 @@
 //! one comes, another library was linked, and the reading stops with a panic.
 
 use crate::rule::*;
-use crate::{Days, JoinRefusal, Joined, Refusal, Text};
+use crate::{Days, JoinRefusal, Joined, Refusal, Text, ANSWER_WORDS};
 
 const ROW: usize = 12;
-pub const ANSWER_WORDS: usize = 108;
 const FIRST_TRIGGER: usize = 1;
 const FIRST_CONDITION: usize = 5;
 const NO_TYPE: u32 = u32::MAX;
@@ -37,6 +36,7 @@ pub fn rule(answer: &[u32; ANSWER_WORDS]) -> Result<Rule, Refusal> {
         trigger_count: head.count(),
         conditions: [Condition::ControllerActive; MOST],
         condition_count: head.count(),
+        words: *answer,
     };
     for (i, trigger) in rule.triggers.iter_mut().enumerate().take(rule.trigger_count) {
         *trigger = Words::of_row(answer, FIRST_TRIGGER + i).trigger();

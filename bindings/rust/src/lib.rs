@@ -1,16 +1,17 @@
 //! Tergyosul, the rule reader of the lighting controllers, for Rust.
 //!
 //! [`read`] takes a rule text and a name sheet, both as bytes, and whose call it is ([`Party`]), perhaps with the topics of
-//! earlier rules ([`Call`]). It gives the rule's triggers and conditions, or one numbered refusal with its place. The reading is done by the proved library, through its
-//! C ABI (`include/tergyosul.h`); this crate passes the slices and turns the answer's words into types, with a case for
-//! each kind and code of that header. It needs no standard library, allocates nothing and keeps nothing between calls, so
-//! that calls may run at the same time.
+//! earlier rules ([`Call`]). It gives the rule's triggers and conditions, or one numbered refusal with its place. A rule is
+//! written out as a text again by [`Rule::written`]. All of that is done by the proved library, through its C ABI
+//! (`include/tergyosul.h`); this crate passes the slices and turns the answer's words into types, with a case for each kind
+//! and code of that header. It needs no standard library, allocates nothing and keeps nothing between calls, so that calls
+//! may run at the same time.
 //!
 //! ```
 //! use tergyosul::{Condition, Party, Power, Ref, Sun, Trigger};
 //!
 //! let text = b"when lamp(\"Till\") turns on when timer(\"Close\") fires if sun is down";
-//! let sheet = b"primary,0\nlamp,1,7,Till\n";
+//! let sheet = b"primary,0\nadapter,1\nlamp,1,7,Till\n";
 //! let party = Party::of_sheet(sheet);
 //! let mut words = [0; tergyosul::TOKEN_WORDS];
 //!
@@ -26,6 +27,10 @@
 //! let refusal = tergyosul::read(b"when lamp(\"Tills\") turns on", sheet, party, &mut words).unwrap_err();
 //! assert_eq!((refusal.number, refusal.line, refusal.column), (31, 1, 11));
 //! assert_eq!(refusal.to_string(), "1:11: no row of that kind has the name (refusal 31)");
+//!
+//! // What was read is written out, with numbers for the sheet's names.
+//! let written = rule.written(text, sheet, party).expect("its adapter is listed");
+//! assert_eq!(written.to_string(), "when lamp ( 7 , adapter = 1 ) turns on when timer ( \"Close\" ) fires if sun is down");
 //! ```
 
 #![no_std]
@@ -47,6 +52,7 @@ mod rule;
 #[cfg(test)]
 mod tests;
 mod token;
+mod written;
 
 pub use call::Call;
 pub use chain::{chains, next_chain, Chain, MOST_PIECES, VOCABULARY};
@@ -59,6 +65,10 @@ pub use rule::{
     Override, Power, Reading, Ref, Rule, Selector, SolarEvent, Sun, TimeBound, Trigger, Value,
 };
 pub use token::{tokens, Token, RECORD_WORDS};
+pub use written::{write, Written, LEAST_BYTES};
+
+/// The length of the words of a rule ([`Rule::words`]), as `include/tergyosul.h` lays an answer out: nine rows of twelve.
+pub const ANSWER_WORDS: usize = 108;
 
 /// How many words a caller lends for the tokens of a text, at least: 1,024 records. With fewer [`read`], [`read_archive`],
 /// [`read_shop`], [`join`] and [`lex`] give refusal 2.
@@ -168,8 +178,8 @@ fn answered(read: impl FnOnce(&mut [u32]) -> u32) -> Result<Rule, Refusal> {
 }
 
 /// The words of an answer that a call writes.
-fn answer_of(call: impl FnOnce(&mut [u32]) -> u32) -> Result<[u32; layout::ANSWER_WORDS], Refusal> {
-    let mut answer = [0; layout::ANSWER_WORDS];
+fn answer_of(call: impl FnOnce(&mut [u32]) -> u32) -> Result<[u32; ANSWER_WORDS], Refusal> {
+    let mut answer = [0; ANSWER_WORDS];
     with_room(call(&mut answer))?;
     Ok(answer)
 }

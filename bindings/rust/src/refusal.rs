@@ -6,11 +6,12 @@ use core::fmt;
 /// A refusal: its number, its place and a detail. `docs/MANUAL.md` has an example of each and says what to do.
 #[derive(Debug, Clone, Copy, PartialEq, Eq, Hash)]
 pub struct Refusal {
-    /// 1 to 4, 10 to 13, 15 to 41, 50 to 53, 57 to 59 or 63 to 67.
+    /// 1 to 4, 10 to 13, 15 to 41, 50 to 59 or 63 to 67.
     pub number: u32,
-    /// From 1, or 0 where there is no place. For number 3 it is the sheet's line, for the others the text's.
+    /// From 1, or 0 where there is no place. For number 3 it is the sheet's line, for 55 and 56 an entry of the lists, the
+    /// conditions behind the triggers, for the others the text's.
     pub line: u32,
-    /// From 1, in characters; 0 for the numbers 1 to 3, 51 to 53 and 67.
+    /// From 1, in characters; 0 for the numbers 1 to 3, 51 to 56 and 67.
     pub column: u32,
     /// With 32 an adapter, with 33 and 34 a count of rows, else 0.
     pub detail: u32,
@@ -59,6 +60,9 @@ impl Refusal {
             51 => "the conditions of the two rules differ",
             52 => "the two rules have more than four triggers",
             53 => "the primary adapter is not the party's",
+            54 => "fewer than 4096 bytes were lent for the text",
+            55 => "no text gives such lists",
+            56 => "an adapter is not listed, or broadcast is not on the primary one",
             57 => "the shop profile takes a name here, no number",
             58 => "the shop profile has no broadcast",
             59 => "the shop profile has no reading of event",
@@ -78,6 +82,7 @@ impl fmt::Display for Refusal {
         match *self {
             Refusal { line: 0, .. } => {}
             Refusal { number: 3, line, .. } => write!(f, "sheet line {line}: ")?,
+            Refusal { number: 55 | 56, line, .. } => write!(f, "entry {line}: ")?,
             Refusal { line, column, .. } => write!(f, "{line}:{column}: ")?,
         }
         f.write_str(self.meaning())?;

@@ -1,6 +1,6 @@
 //! What a rule says, with a case for each kind and code of `include/tergyosul.h`.
 
-use crate::Days;
+use crate::{written, Days, Party, Refusal, Written, ANSWER_WORDS};
 use core::fmt;
 
 /// How many triggers a rule has at most, and how many conditions.
@@ -14,6 +14,8 @@ pub struct Rule {
     pub(crate) trigger_count: usize,
     pub(crate) conditions: [Condition; MOST],
     pub(crate) condition_count: usize,
+    // The answer that all this is taken from.
+    pub(crate) words: [u32; ANSWER_WORDS],
 }
 
 impl Rule {
@@ -36,6 +38,44 @@ impl Rule {
     /// The conditions, in the text's order; all of them must hold.
     pub fn conditions(&self) -> &[Condition] {
         &self.conditions[..self.condition_count]
+    }
+
+    /// The words of the rule, as `include/tergyosul.h` lays an answer out: what [`write`](crate::write) takes.
+    pub fn words(&self) -> &[u32; ANSWER_WORDS] {
+        &self.words
+    }
+
+    /// The rule written out as [`write`](crate::write) does, with a sheet and for a party; its names are taken from the text
+    /// that was read. With the sheet and for the party of that reading it is refused only where a name of the text stands on
+    /// an adapter that is not listed, with 56: by a number nothing there can be referred to.
+    ///
+    /// ```
+    /// use tergyosul::Party;
+    ///
+    /// let text = b"when lamp(\"Till\") turns on when timer(\"Close\") fires if time in 7:05..sunset+1h";
+    /// let sheet = b"primary,0\nadapter,1\nlamp,1,7,Till\n";
+    /// let party = Party::of_sheet(sheet);
+    /// let mut words = [0; tergyosul::TOKEN_WORDS];
+    ///
+    /// let rule = tergyosul::read(text, sheet, party, &mut words)?;
+    /// assert_eq!(
+    ///     rule.written(text, sheet, party)?.to_string(),
+    ///     "when lamp ( 7 , adapter = 1 ) turns on when timer ( \"Close\" ) fires if time in 07:05 .. sunset + 3600000ms",
+    /// );
+    ///
+    /// // On its own primary adapter a lamp needs no `adapter`; on another one that is not listed it has no text.
+    /// let other = b"primary,1\n";
+    /// assert!(rule.written(text, other, Party::of_sheet(other))?.starts_with("when lamp ( 7 ) turns on"));
+    /// let refusal = rule.written(text, other, party).unwrap_err();
+    /// assert_eq!((refusal.number, refusal.line), (56, 1));
+    /// # Ok::<(), tergyosul::Refusal>(())
+    /// ```
+    ///
+    /// # Panics
+    ///
+    /// As [`write`](crate::write).
+    pub fn written(&self, text: &[u8], sheet: &[u8], party: Party) -> Result<Written, Refusal> {
+        written::kept(&self.words, [text, &[]], sheet, party)
     }
 }
 

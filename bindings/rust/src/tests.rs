@@ -2,8 +2,9 @@
 
 use crate::rule::*;
 use crate::chain::{decoded, CHAIN_WORDS};
+use crate::written::{text_in, WRITE_WORDS};
 use crate::{boundary, layout, lex, read, read_archive, tokens, with_room};
-use crate::{Call, Day, Days, Party, Refusal, Token, LEX_WORDS, MOST_PIECES, RECORD_WORDS, TOKEN_WORDS, VOCABULARY};
+use crate::{Call, Day, Days, Party, Refusal, Token, ANSWER_WORDS, LEAST_BYTES, LEX_WORDS, MOST_PIECES, RECORD_WORDS, TOKEN_WORDS, VOCABULARY};
 use std::format;
 use std::string::{String, ToString};
 use std::vec::Vec;
@@ -32,8 +33,8 @@ fn days(of: &[Day]) -> Days {
     of.iter().copied().collect()
 }
 
-fn answer(text: &str) -> [u32; layout::ANSWER_WORDS] {
-    let mut answer = [u32::MAX; layout::ANSWER_WORDS];
+fn answer(text: &str) -> [u32; ANSWER_WORDS] {
+    let mut answer = [u32::MAX; ANSWER_WORDS];
     let number = boundary::read(text.as_bytes(), SHEET, ZERO, &mut [0; TOKEN_WORDS], &mut answer);
     assert_eq!((number, answer[0]), (0, 0), "{text}");
     answer
@@ -44,6 +45,13 @@ fn assert_row(answer: &[u32], row: usize, words: &[u32], text: &str) {
     let (front, rest) = answer[12 * row..12 * (row + 1)].split_at(words.len());
     assert_eq!(front, words, "{text}");
     assert!(rest.iter().all(|&word| word == 0), "{text}");
+}
+
+/// What is written of a rule is read as one that is written so again.
+fn assert_written(rule: &Rule, text: &str) {
+    let written = rule.written(text.as_bytes(), SHEET, ZERO.party).expect(text);
+    let again = read(written.as_bytes(), SHEET, ZERO, &mut [0; TOKEN_WORDS]).expect(&written);
+    assert_eq!(again.written(written.as_bytes(), SHEET, ZERO.party), Ok(written), "{text}");
 }
 
 /// The constants of an enum in the header, with their values.
@@ -72,6 +80,7 @@ fn trigger(text: &str, words: &[u32]) -> Trigger {
     assert_row(&answer, 1, words, &text);
     (2..9).for_each(|row| assert_row(&answer, row, &[], &text));
     let rule = layout::rule(&answer).expect("it is accepted");
+    assert_written(&rule, &text);
     assert_eq!(rule.conditions(), []);
     let [trigger] = rule.triggers() else { panic!("{text} has one trigger") };
     *trigger
@@ -88,6 +97,7 @@ fn condition(text: &str, words: &[u32]) -> Condition {
     assert_row(&answer, 5, words, &text);
     [2, 3, 4, 6, 7, 8].iter().for_each(|&row| assert_row(&answer, row, &[], &text));
     let rule = layout::rule(&answer).expect("it is accepted");
+    assert_written(&rule, &text);
     let [condition] = rule.conditions() else { panic!("{text} has one condition") };
     *condition
 }
@@ -529,7 +539,7 @@ fn without_a_repeat_the_calls_are_alike() {
     let accepted = [&b"when input(dev=5, inst=0) is press"[..], b"when lamp(\"Till\") turns on"];
     for text in refused.into_iter().chain(accepted) {
         let [mut words, mut archive_words] = [[9; TOKEN_WORDS]; 2];
-        let [mut answer, mut archive_answer] = [[7; layout::ANSWER_WORDS + 1]; 2];
+        let [mut answer, mut archive_answer] = [[7; ANSWER_WORDS + 1]; 2];
         let number = boundary::read(text, SHEET, ZERO, &mut words, &mut answer);
         assert_eq!(boundary::read_archive(text, SHEET, ZERO, &mut archive_words, &mut archive_answer), number);
         assert_eq!((words, answer), (archive_words, archive_answer));
@@ -540,8 +550,9 @@ fn without_a_repeat_the_calls_are_alike() {
 /// Nothing is read and nothing is written, be the text accepted or refused, the sheet bad, or the words too few.
 #[test]
 fn no_room_for_the_answer() {
-    let mut answer = [7; layout::ANSWER_WORDS - 1];
+    let mut answer = [7; ANSWER_WORDS - 1];
     let [mut words, mut others] = [[9; TOKEN_WORDS]; 2];
+    let mut out = [9; LEAST_BYTES];
     for (text, sheet) in [(&b"when http trigger"[..], SHEET), (b"when", SHEET), (b"when http trigger", b"")] {
         assert_eq!(boundary::read(text, sheet, ZERO, &mut words, &mut answer), boundary::NO_ROOM);
         assert_eq!(boundary::read(text, sheet, ZERO, &mut words, &mut []), boundary::NO_ROOM);
@@ -550,6 +561,10 @@ fn no_room_for_the_answer() {
         assert_eq!(boundary::read_shop(text, sheet, ZERO, &mut words, &mut answer), boundary::NO_ROOM);
         let both: [&mut [u32]; 2] = [&mut words, &mut others];
         assert_eq!(boundary::join([text; 2], sheet, ZERO, both, &mut answer), boundary::NO_ROOM);
+        let lists = self::answer("when http trigger");
+        let short = &mut answer[..WRITE_WORDS - 1];
+        assert_eq!(boundary::write([text; 2], sheet, ZERO.party, &lists, &mut out, short), boundary::NO_ROOM);
+        assert_eq!(boundary::write([text; 2], sheet, ZERO.party, &lists, &mut [], &mut []), boundary::NO_ROOM);
     }
     for text in [&b"when http trigger"[..], b"when @"] {
         assert_eq!(boundary::lex(text, &mut words, &mut answer[..LEX_WORDS - 1]), boundary::NO_ROOM);
@@ -561,6 +576,7 @@ fn no_room_for_the_answer() {
     }
     assert!(answer.iter().all(|&word| word == 7));
     assert!(words.iter().chain(&others).all(|&word| word == 9));
+    assert!(out.iter().all(|&byte| byte == 9));
     let refusal = with_room(boundary::NO_ROOM).unwrap_err();
     assert_eq!(refusal.to_string(), "there is no room for the answer (refusal 4294967295)");
     assert_eq!(with_room(20), Ok(()));
@@ -574,8 +590,11 @@ fn the_lengths_are_the_headers() {
     };
     assert_eq!(defined("RECORD"), RECORD_WORDS as u32);
     assert_eq!(defined("TOKEN_WORDS"), TOKEN_WORDS as u32);
-    assert_eq!(defined("ANSWER_WORDS"), layout::ANSWER_WORDS as u32);
+    assert_eq!(defined("ANSWER_WORDS"), ANSWER_WORDS as u32);
     assert_eq!(defined("LEX_WORDS"), LEX_WORDS as u32);
+    assert_eq!(defined("WRITE_WORDS"), WRITE_WORDS as u32);
+    assert_eq!(defined("WRITE_LENGTH"), WRITE_WORDS as u32 - 1);
+    assert_eq!(defined("LEAST_BYTES"), LEAST_BYTES as u32);
     assert_eq!(defined("CHAIN_WORDS"), CHAIN_WORDS as u32);
     assert_eq!(defined("MOST_PIECES"), MOST_PIECES as u32);
     assert_eq!(defined("NO_ROOM"), boundary::NO_ROOM);
@@ -583,9 +602,9 @@ fn the_lengths_are_the_headers() {
 
 #[test]
 fn a_longer_answer_keeps_its_end() {
-    let mut answer = [7; layout::ANSWER_WORDS + 5];
+    let mut answer = [7; ANSWER_WORDS + 5];
     assert_eq!(boundary::read(b"when http trigger", SHEET, ZERO, &mut [0; TOKEN_WORDS], &mut answer), 0);
-    assert_eq!(answer[layout::ANSWER_WORDS..], [7; 5]);
+    assert_eq!(answer[ANSWER_WORDS..], [7; 5]);
 }
 
 #[test]
@@ -642,18 +661,20 @@ fn lexing_refuses_what_is_not_utf8() {
 #[test]
 fn every_refusal_has_its_own_meaning() {
     let refusal = |number| Refusal { number, line: 2, column: 3, detail: 4 };
-    let known = |number| matches!(number, 1..=4 | 10..=13 | 15..=41 | 50..=53 | 57..=59 | 63..=67);
+    let known = |number| matches!(number, 1..=4 | 10..=13 | 15..=41 | 50..=59 | 63..=67);
     let mut meanings: Vec<&str> = (0..100).filter(|&n| known(n)).map(|n| refusal(n).meaning()).collect();
-    assert_eq!(meanings.len(), 47);
+    assert_eq!(meanings.len(), 50);
     meanings.sort();
     meanings.dedup();
-    assert_eq!(meanings.len(), 47);
+    assert_eq!(meanings.len(), 50);
     let unknown = refusal(0).meaning();
     assert!((0..100).all(|n| known(n) != (refusal(n).meaning() == unknown)));
     assert_eq!(refusal(3).to_string(), "sheet line 2: the sheet is not well formed (refusal 3)");
     assert_eq!(Refusal { line: 0, ..refusal(1) }.to_string(), "the text has more than 16384 bytes (refusal 1)");
     let others = Refusal { line: 0, column: 0, ..refusal(53) };
     assert_eq!(others.to_string(), "the primary adapter is not the party's (refusal 53)");
+    assert_eq!(refusal(55).to_string(), "entry 2: no text gives such lists (refusal 55)");
+    assert_eq!(Refusal { line: 0, ..refusal(55) }.to_string(), "no text gives such lists (refusal 55)");
     assert_eq!(refusal(20).to_string(), "2:3: something else belongs here (refusal 20)");
     assert_eq!(refusal(34).to_string(), "2:3: several adapters have the name, 4 rows (refusal 34)");
 }
@@ -668,7 +689,7 @@ fn a_broken_adapter_is_seen() {
 #[test]
 fn a_broken_answer_is_seen() {
     let decoded = |words: &[(usize, u32)]| {
-        let mut answer = [0; layout::ANSWER_WORDS];
+        let mut answer = [0; ANSWER_WORDS];
         words.iter().for_each(|&(at, word)| answer[at] = word);
         std::panic::catch_unwind(|| layout::rule(&answer)).map_err(|panic| *panic.downcast::<&str>().expect("a message"))
     };
@@ -708,7 +729,7 @@ fn a_joining_says_its_texts() {
     assert_covers("tergyosul_origin", &[("WHICH", layout::WHICH as u32), ("TRIGGERS_FROM", 7), ("CONDITIONS_FROM", 11)]);
     let row = |first: &[u8], second: &[u8]| {
         let [mut words, mut others] = [[0; TOKEN_WORDS]; 2];
-        let mut answer = [u32::MAX; layout::ANSWER_WORDS];
+        let mut answer = [u32::MAX; ANSWER_WORDS];
         let number = boundary::join([first, second], SHEET, ZERO, [&mut words, &mut others], &mut answer);
         assert_eq!(number, answer[0]);
         let [row @ .., _, _] = *answer.first_chunk::<14>().expect("row 0");
@@ -727,7 +748,7 @@ fn a_joining_says_its_texts() {
 #[test]
 fn a_broken_joining_is_seen() {
     let decoded = |words: &[(usize, u32)]| {
-        let mut answer = [0; layout::ANSWER_WORDS];
+        let mut answer = [0; ANSWER_WORDS];
         words.iter().for_each(|&(at, word)| answer[at] = word);
         std::panic::catch_unwind(|| layout::joined(&answer)).map_err(|panic| *panic.downcast::<&str>().expect("a message"))
     };
@@ -747,6 +768,39 @@ fn a_broken_joining_is_seen() {
     for words in cases {
         assert_eq!(decoded(words), broken, "{words:?}");
     }
+}
+
+/// Every word of an answer of `tergyosul_write`, no word behind it and no byte behind the text.
+#[test]
+fn a_written_text_and_its_words() {
+    let written = |lists: &[u32], size: usize| {
+        let mut out = [9; LEAST_BYTES + 1];
+        let mut answer = [7; WRITE_WORDS + 1];
+        let number = boundary::write([b""; 2], SHEET, ZERO.party, lists, &mut out[..size], &mut answer);
+        let [words @ .., behind] = answer;
+        let (text, rest) = out.split_at(words[WRITE_WORDS - 1] as usize);
+        assert_eq!((number, behind), (words[0], 7));
+        assert!(rest.iter().all(|&byte| byte == 9));
+        (words, text.to_vec())
+    };
+    let text = "when http trigger if sun is up";
+    let lists = answer(text);
+    let refused = |number, line| ([number, line, 0, 0, 0], Vec::new());
+    for (lists, size) in [(&lists[..], LEAST_BYTES), (&lists, LEAST_BYTES + 1), (&lists[..62], LEAST_BYTES)] {
+        assert_eq!(written(lists, size), ([0, 0, 0, 0, 30], text.as_bytes().to_vec()));
+    }
+    assert_eq!(written(&lists, LEAST_BYTES - 1), refused(54, 0));
+    assert_eq!(written(&lists[..61], LEAST_BYTES), refused(55, 2));
+    assert_eq!(written(&lists[..12], LEAST_BYTES), refused(55, 1));
+    assert_eq!(written(&[], LEAST_BYTES), refused(55, 0));
+}
+
+/// The length of a text that another library made up, or bytes that are no text.
+#[test]
+fn a_broken_text_is_seen() {
+    let broken = |bytes: &'static [u8], length| std::panic::catch_unwind(|| text_in(bytes, length).len()).is_err();
+    assert!(broken(b"when", 5) && broken(b"wh\xC3", 3));
+    assert!(!broken(b"when", 4) && !broken(b"", 0) && !broken(b"wh\xC3", 2));
 }
 
 /// Every word of an answer of `tergyosul_next_chain`, and no word behind it.

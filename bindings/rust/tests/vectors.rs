@@ -5,7 +5,7 @@ mod shown;
 
 use std::path::Path;
 use std::{fs, str};
-use tergyosul::{Call, Party, Refusal};
+use tergyosul::{Call, Party, Refusal, Written, ANSWER_WORDS, TOKEN_WORDS};
 
 /// What every word holds before a call.
 const UNTOUCHED: u32 = u32::MAX;
@@ -13,10 +13,14 @@ const UNTOUCHED: u32 = u32::MAX;
 /// A call of this crate.
 type Read<'a> = fn(&[u8], &[u8], Call<'a>, &mut [u32]) -> Result<tergyosul::Rule, tergyosul::Refusal>;
 
+/// What every byte for a text holds before it is written.
+const BLANK: u8 = 165;
+
 /// A stored call, and a start of a chain: its number and its pieces.
 enum Block<'a> {
     Read(Case<'a>),
     Join(Joining<'a>),
+    Write(Writing<'a>),
     Next(&'a str, Vec<u8>),
 }
 
@@ -41,6 +45,16 @@ struct Joining<'a> {
     texts: [&'a [u8]; 2],
     sheet: &'a [u8],
     call: Call<'a>,
+}
+
+struct Writing<'a> {
+    id: &'a str,
+    size: usize,
+    party: Party,
+    texts: [&'a [u8]; 2],
+    sheet: &'a [u8],
+    /// None where the layout of an answer cannot say them.
+    lists: Option<[u32; ANSWER_WORDS]>,
 }
 
 fn stored(name: &str) -> Vec<u8> {
@@ -79,6 +93,26 @@ fn party(number: &str, primary: &str) -> Party {
     Party { number: number.parse().expect("a party"), primary: primary.parse().expect("an adapter") }
 }
 
+/// A line of lists, two counts and eight rows with a text each, laid out as an answer. That has one text for all conditions,
+/// and 0 stands for the first one there.
+fn lists(line: &str) -> Option<[u32; ANSWER_WORDS]> {
+    let numbers: Vec<u32> = line.split(' ').map(|number| number.parse().expect("a word")).collect();
+    let (counts, rows) = numbers.split_at(2);
+    let mut words = [0; ANSWER_WORDS];
+    words[4..6].copy_from_slice(counts);
+    let mut texts = [0; 8];
+    for ((row, text), place) in rows.chunks_exact(13).zip(&mut texts).zip(words[12..].chunks_exact_mut(12)) {
+        *text = row[0];
+        place.copy_from_slice(&row[1..]);
+    }
+    words[7..11].copy_from_slice(&texts[..4]);
+    words[11] = texts[4];
+    // Of the rows in use.
+    let [triggers, conditions] = [(&texts[..4], counts[0]), (&texts[4..], counts[1])].map(|(texts, count)| &texts[..count.min(4) as usize]);
+    let is_said = triggers.iter().all(|&text| text != 0) && conditions.iter().all(|&text| text != 0 && text == words[11]);
+    is_said.then_some(words)
+}
+
 /// The block with this first line, whose bytes follow. A `case` is party 0's, with the sheet's own primary and no topics.
 fn block<'a>(header: &[&'a str], input: &mut &'a [u8]) -> Block<'a> {
     match *header {
@@ -96,6 +130,10 @@ fn block<'a>(header: &[&'a str], input: &mut &'a [u8]) -> Block<'a> {
             let (texts, sheet) = ([body(input, first), body(input, second)], body(input, sheet));
             let call = Call { party: party(number, primary), topics: body(input, topics) };
             Block::Join(Joining { id, sizes: [size(words), size(others)], texts, sheet, call })
+        }
+        ["write", id, bytes, number, primary, first, second, sheet] => {
+            let (texts, sheet) = ([body(input, first), body(input, second)], body(input, sheet));
+            Block::Write(Writing { id, size: size(bytes), party: party(number, primary), texts, sheet, lists: lists(line(input)) })
         }
         ["next", id, _, _] => {
             let pieces = line(input).split_terminator(' ').map(|piece| piece.parse().expect("a piece")).collect();
@@ -132,12 +170,13 @@ fn refusal(r: Refusal) -> String {
     format!("{} {} {} {}", r.number, r.line, r.column, r.detail)
 }
 
-/// The answer to a call, in the replay format.
-fn answer(block: &Block) -> String {
+/// The answer to a call, in the replay format; none to lists that the layout cannot say.
+fn answer(block: &Block) -> Option<String> {
     match block {
-        Block::Read(case) => answer_to_case(case),
-        Block::Join(joining) => answer_to_joining(joining),
-        Block::Next(id, pieces) => answer_to_start(id, pieces),
+        Block::Read(case) => Some(answer_to_case(case)),
+        Block::Join(joining) => Some(answer_to_joining(joining)),
+        Block::Write(writing) => writing.lists.map(|lists| answer_to_writing(writing, &lists)),
+        Block::Next(id, pieces) => Some(answer_to_start(id, pieces)),
     }
 }
 
@@ -158,6 +197,17 @@ fn answer_to_joining(joining: &Joining) -> String {
         Ok(joined) => shown::joined(&joined, first, second),
     };
     format!("case {id}\n{}{}{said}", buffer(&words), buffer(&others))
+}
+
+fn answer_to_writing(writing: &Writing, lists: &[u32]) -> String {
+    let Writing { id, size, party, texts, sheet, .. } = *writing;
+    let mut out = vec![BLANK; size];
+    let (length, said) = match tergyosul::write(lists, texts, sheet, party, &mut out) {
+        Err(r) => (0, format!("refused {}", refusal(r))),
+        Ok(text) => (text.len(), text.bytes().fold(format!("written {} x", text.len()), |line, byte| format!("{line}{byte:02x}"))),
+    };
+    let kept = out[length..].iter().all(|&byte| byte == BLANK);
+    format!("case {id}\nbuffer {}\n{said}\n", if kept { "kept" } else { "changed" })
 }
 
 /// The answer to a start of a chain, in the replay format. This crate lends its own array for it.
@@ -191,8 +241,61 @@ fn every_stored_answer_is_given() {
     assert!(blocks.iter().filter(|block| matches!(block, Block::Next(..))).count() >= 100);
     assert_eq!(blocks.len(), answers.len());
     for (block, expected) in blocks.iter().zip(&answers) {
-        assert_eq!(answer(block), *expected);
+        if let Some(answer) = answer(block) {
+            assert_eq!(answer, *expected);
+        }
     }
+}
+
+/// An accepted call: the lines of its entries, and what is written of it with its own texts, sheet and party.
+struct Accepted<'a> {
+    id: &'a str,
+    sheet: &'a [u8],
+    party: Party,
+    shown: String,
+    written: Result<Written, Refusal>,
+}
+
+fn accepted<'a>(block: &Block<'a>) -> Option<Accepted<'a>> {
+    match block {
+        Block::Read(case) => {
+            let Case { id, text, sheet, call: Call { party, .. }, .. } = *case;
+            let rule = case.read(&mut vec![0; case.words]).ok()?;
+            Some(Accepted { id, sheet, party, shown: shown::rule(&rule, text), written: rule.written(text, sheet, party) })
+        }
+        Block::Join(joining) => {
+            let Joining { id, sizes, texts: [first, second], sheet, call } = *joining;
+            let [mut words, mut others] = sizes.map(|size| vec![0; size]);
+            let joined = tergyosul::join(first, second, sheet, call, &mut words, &mut others).ok()?;
+            let written = joined.written(first, second, sheet, call.party);
+            Some(Accepted { id, sheet, party: call.party, shown: shown::joined(&joined, first, second), written })
+        }
+        Block::Write(_) | Block::Next(..) => None,
+    }
+}
+
+/// The lines of a rule's entries, without the texts in which their names stand.
+fn entries(shown: &str) -> Vec<String> {
+    shown.lines().map(|line| line.replace("T 1 ", "T ").replace("T 2 ", "T ").replace("C 1 ", "C ")).collect()
+}
+
+/// What is accepted is written, unless a name stands on an adapter that is not listed; and what is written has the same
+/// entries, names by their bytes.
+#[test]
+fn what_is_accepted_is_written() {
+    let input = stored("stdin");
+    let mut count = 0;
+    for Accepted { id, sheet, party, shown, written } in blocks(&input).iter().filter_map(accepted) {
+        match written {
+            Ok(text) => {
+                let rule = tergyosul::read(text.as_bytes(), sheet, party, &mut [0; TOKEN_WORDS]).expect(id);
+                assert_eq!(entries(&shown::rule(&rule, text.as_bytes())), entries(&shown), "case {id}");
+                count += 1;
+            }
+            Err(refusal) => assert_eq!(refusal.number, 56, "case {id}"),
+        }
+    }
+    assert!(count >= 400, "{count} are written");
 }
 
 /// Lexing alone gives the same records, and the same refusal if it is one of lexing. It knows no sheet, so no 3 and no 53.
@@ -226,7 +329,9 @@ fn calls_of_several_threads() {
             scope.spawn(move || {
                 let from = first * blocks.len() / 4;
                 for i in (from..blocks.len()).chain(0..from) {
-                    assert_eq!(answer(&blocks[i]), answers[i]);
+                    if let Some(answer) = answer(&blocks[i]) {
+                        assert_eq!(answer, answers[i]);
+                    }
                 }
             });
         }

@@ -27,7 +27,7 @@ padded-word (suc n) (suc i) [] h = padded-word n i [] (omega arith)
 padded-word (suc n) zero (w ∷ ws) h = refl
 padded-word (suc n) (suc i) (w ∷ ws) h = padded-word n i ws (omega arith)
 
-whole-word : (ws : List ℕ) (i : ℕ) → ltb i rowWords ≡ true → word (wholeRow ws) i ≡ word ws i
+pub whole-word : (ws : List ℕ) (i : ℕ) → ltb i rowWords ≡ true → word (wholeRow ws) i ≡ word ws i
 unfolding wholeRow
 whole-word ws i h = padded-word rowWords i ws (ltb-true i rowWords h)
 

@@ -19,11 +19,11 @@ ghost use Rattle.text.specs.Choice.{pick};
 ghost use Rattle.flat.specs.Flat.{triggerWords, conditionWords, wholeRow, rowSet, headRow, withTriggers, withConditions, flat};
 
 // How many rows a list has.
-const LIST_ROWS: usize = 4;
+pub const LIST_ROWS: usize = 4;
 
-const FIRST_TRIGGER: usize = 1;
+pub const FIRST_TRIGGER: usize = 1;
 
-const FIRST_CONDITION: usize = FIRST_TRIGGER + LIST_ROWS;
+pub const FIRST_CONDITION: usize = FIRST_TRIGGER + LIST_ROWS;
 
 const ROW_COUNT: usize = FIRST_CONDITION + LIST_ROWS;
 

@@ -1,5 +1,5 @@
 -- The whole call, step by step.
-use Prim.Native.Nat.{ℕ, zero, suc, _+_, _≤_}
+use Prim.Native.Nat.{ℕ, _+_, _≤_}
 use mathlib.Core.Path.{_≡_, _∙_, refl, ap, sym, subst}
 use mathlib.Core.List.{List, [], _∷_, _++_, map, map-append}
 use mathlib.Core.Bool.{Bool, true, false, not}
@@ -7,7 +7,7 @@ use native.Mathlib.Omega.{arith}
 use lib.ListN.{length, take, length-append}
 use lib.Seq.{length-take-le}
 use borrow.Author.Tests.{eq-eqb, ne-eqb, not-true, not-false}
-use Rattle.model.specs.Lists.{padded, triggersOf, conditionsOf, acceptedWith, refusedWith}
+use Rattle.model.specs.Lists.{triggersOf, conditionsOf, acceptedWith, refusedWith}
 use mir.Syntax.{w8}
 use mir.Val.{Fits}
 use Rattle.model.specs.Limits.{lastAdapter}
@@ -37,7 +37,7 @@ use Rattle.join.proofs.RowLaws.{in-use-long, padded-front}
 use Rattle.join.proofs.KeptLaws.{all-both}
 use Rattle.join.specs.Joining.{Exact-join}
 use Rattle.join.proofs.Theorem.{exact-join}
-use Rattle.join.proofs.ListLaws.{conditions-back, few-triggers, few-conditions}
+use Rattle.join.proofs.ListLaws.{padded-long, conditions-back, few-triggers, few-conditions}
 
 -- an accepted answer of the reader is finished
 pub finished : (call : Call) (text sheet : List ℕ) (lent : List (List ℕ)) (size : ℕ) {answer : Answer} → Exact call text sheet lent size answer → answer .number ≡ 0 →
@@ -51,12 +51,6 @@ finished call text sheet lent size e h =
       few-triggers = few-triggers (a .reads .reading);
       few-conditions = few-conditions (a .reads .reading);
     }
-
-padded-long : {A B : Type 0} (row : A → B) (unused : B) (n : ℕ) (xs : List A) → length (padded row unused n xs) ≡ n
-unfolding padded
-padded-long row unused zero xs = refl
-padded-long row unused (suc n) [] = ap suc (padded-long row unused n [])
-padded-long row unused (suc n) (x ∷ xs) = ap suc (padded-long row unused n xs)
 
 module _ {answer : Answer} (f : Finished answer) where
   finished-conditions-are : answer .conditions ≡ conditionsOf (f .conditions)

@@ -1,7 +1,7 @@
 -- The lists of an accepted answer are those that it was made of, if they have at most four entries; and the lists of a reading have no more.
 use Prim.Native.Nat.{ℕ, zero, suc, _≤_}
 use native.Mathlib.Omega.{arith}
-use mathlib.Core.Path.{_≡_, refl}
+use mathlib.Core.Path.{_≡_, refl, ap}
 use mathlib.Core.List.{List, [], _∷_, map}
 use lib.ListN.{length, take}
 use Rattle.tokens.specs.Cursor.{Tok}
@@ -15,6 +15,13 @@ use Rattle.model.specs.declared.ConditionRow.{ConditionRow}
 use Rattle.language.specs.Limits.{mostTriggers}
 use Rattle.language.specs.grammar.Text.{When-section, whens, Conditions-of, joined, If-section, no-if, conditions, Reading-with, reading}
 use Rattle.join.specs.Join.{triggersIn, conditionsIn}
+
+-- rows are as many as there is room for
+pub padded-long : {A B : Type 0} (row : A → B) (unused : B) (n : ℕ) (xs : List A) → length (padded row unused n xs) ≡ n
+unfolding padded
+padded-long row unused zero xs = refl
+padded-long row unused (suc n) [] = ap suc (padded-long row unused n [])
+padded-long row unused (suc n) (x ∷ xs) = ap suc (padded-long row unused n xs)
 
 -- the entries in use, taken out of their rows again
 padded-back : {A B : Type 0} (row : A → B) (back : B → A) (unused : B) → ((x : A) → back (row x) ≡ x) → (n : ℕ) (xs : List A) → length xs ≤ n →

@@ -24,14 +24,6 @@ const UNTOUCHED: u32 = 165;
 // Bytes enough for the lines of a chain.
 const ROOM: usize = 256;
 
-// What stands behind a number of the line: a line end behind the last.
-fn separator(last: bool) -> u8 {
-    if last {
-        return b'\n';
-    }
-    b' '
-}
-
 // Reads the line of so many pieces into the start of a buffer; false where they are not there or find no room.
 fn fill(pieces: &mut [u8], count: usize) -> bool {
     if count == 0 {
@@ -42,7 +34,7 @@ fn fill(pieces: &mut [u8], count: usize) -> bool {
     }
     let mut i = 0;
     while i < count {
-        let n = input::number(separator(i + 1 == count));
+        let n = input::number(input::separator(i + 1 == count));
         if MOST < n {
             return false;
         }

@@ -52,6 +52,14 @@ pub fn number(stop: u8) -> u64 {
     n
 }
 
+// What stands behind a number of a line of numbers: a line end behind the last.
+pub fn separator(last: bool) -> u8 {
+    if last {
+        return b'\n';
+    }
+    b' '
+}
+
 // Are these the next bytes of the input? It is read up to the first that differs.
 pub fn follows(expected: &[u8]) -> bool {
     let mut i = 0;

@@ -8,6 +8,7 @@ mod list;
 mod out;
 mod report;
 mod show;
+mod written;
 
 // Room for the longest text, sheet or topics, with their line end.
 const BYTES: usize = 20001;
@@ -195,7 +196,7 @@ fn rest_of_call() -> bool {
     })
 }
 
-// What follows the first word; false where that is none of `case `, `call `, `join ` and `next `.
+// What follows the first word; false where that is none of `case `, `call `, `join `, `next ` and `write`.
 fn rest(first: &[u8]) -> bool {
     if text::part::same(first, b"case ") {
         return rest_of_case();
@@ -209,10 +210,13 @@ fn rest(first: &[u8]) -> bool {
     if text::part::same(first, b"next ") {
         return chain::rest();
     }
+    if text::part::same(first, b"write") {
+        return written::rest();
+    }
     false
 }
 
-// One case, call, joining or chain; false at the end of the input, and where it is none of them.
+// One case, call, joining, chain or writing; false at the end of the input, and where it is none of them.
 fn one_case() -> bool {
     let mut first = [0u8; 5];
     if io::read_full(0, &mut first) == 0 {

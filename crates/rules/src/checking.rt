@@ -1,6 +1,8 @@
-// `rules check RULES SHEET`, with perhaps options: both lists in plain words, or one diagnostic.
+// `rules check RULES SHEET`, with perhaps options: both lists in plain words, or one diagnostic. `rules write RULES SHEET` goes the same way up to a rule that is
+// accepted, which it writes.
 use crate::diagnose;
 use crate::reading;
+use crate::writing_out;
 use sheet::Call;
 use sheet::Habit;
 use wording::files;
@@ -78,6 +80,7 @@ pub fn asked(o: Options, sheet: &[u8]) -> Call {
 
 // What came of the call, said with what its party sees of the sheet.
 fn said(
+    writes: bool,
     call: Call,
     text: &[u8],
     sheet: &[u8],
@@ -90,15 +93,20 @@ fn said(
     let mut buffer = [0u8; 20000];
     let size = seen::put(sheet, call.party, &mut buffer);
     let seen = text::part::part(&buffer, 0, size);
-    if layout::number(answer) == 0 {
-        accepted(text, seen, answer);
+    if layout::number(answer) != 0 {
+        diagnose::show(text, seen, lent, words, answer, text_name, sheet_name, call);
         return;
     }
-    diagnose::show(text, seen, lent, words, answer, text_name, sheet_name, call);
+    if writes {
+        writing_out::run(call, text, seen, lent, words, answer, text_name, sheet_name);
+        return;
+    }
+    accepted(text, seen, answer);
 }
 
 // Reads the rule and says what came of it.
 fn answered(
+    writes: bool,
     call: Call,
     text: &[u8],
     sheet: &[u8],
@@ -113,6 +121,7 @@ fn answered(
         return;
     }
     said(
+        writes,
         call,
         text,
         sheet,
@@ -136,18 +145,33 @@ pub fn load_topics(o: Options, buf: &mut [u8]) -> Loaded {
 }
 
 // Reads the file of topics, and the rule with it.
-fn with_topics(o: Options, text: &[u8], sheet: &[u8], text_name: &[u8], sheet_name: &[u8]) {
+fn with_topics(
+    o: Options,
+    writes: bool,
+    text: &[u8],
+    sheet: &[u8],
+    text_name: &[u8],
+    sheet_name: &[u8],
+) {
     let mut topics = [0u8; 20000];
     let loaded = load_topics(o, &mut topics);
     if loaded.fault != 0 {
         return;
     }
     let lent = text::part::part(&topics, 0, loaded.size);
-    answered(asked(o, sheet), text, sheet, lent, text_name, sheet_name);
+    answered(
+        writes,
+        asked(o, sheet),
+        text,
+        sheet,
+        lent,
+        text_name,
+        sheet_name,
+    );
 }
 
 // Reads the files of the rule and the sheet, and what the options name.
-fn with_files(o: Options, text_name: &[u8], sheet_name: &[u8]) {
+fn with_files(o: Options, writes: bool, text_name: &[u8], sheet_name: &[u8]) {
     let mut text = [0u8; 20000];
     let mut sheet = [0u8; 20000];
     let first = files::load(text_name, &mut text);
@@ -160,6 +184,7 @@ fn with_files(o: Options, text_name: &[u8], sheet_name: &[u8]) {
     }
     with_topics(
         o,
+        writes,
         text::part::part(&text, 0, first.size),
         text::part::part(&sheet, 0, second.size),
         text_name,
@@ -167,14 +192,15 @@ fn with_files(o: Options, text_name: &[u8], sheet_name: &[u8]) {
     );
 }
 
-// The names of the files are the words behind the options, in a call with so many.
-pub fn run(o: Options, count: usize) {
+// Checks a rule, or writes it. The names of the files are the words behind the options, in a call with so many.
+pub fn run(o: Options, writes: bool, count: usize) {
     let mut text_name = [0u8; 4095];
     let mut sheet_name = [0u8; 4095];
     let n = os::arg(o.at, &mut text_name);
     let m = os::arg(options::further(o.at, 1, count), &mut sheet_name);
     with_files(
         o,
+        writes,
         text::part::part(&text_name, 0, n),
         text::part::part(&sheet_name, 0, m),
     );

@@ -8,8 +8,10 @@ mod expected;
 mod help;
 mod joining;
 mod listing;
+mod lists;
 mod range;
 mod reading;
+mod writing_out;
 
 use wording::options;
 use wording::out;
@@ -22,10 +24,11 @@ fn usage() {
   rules tokens RULES        lists the words, numbers and signs of the rule
   rules same A B            says whether the rules in the files A and B are the same, layout aside
   rules join A B SHEET      joins the rules in the files A and B, which have the same conditions, into one
+  rules write RULES SHEET   writes the rule in the file RULES out in one form, whose text alone is on standard output
   rules chains              lists every short chain of conditions, one a line
   rules help                prints this
 
-Options stand before the files of check and of join, which has no --archive and no --shop; the others have none:
+Options stand before the files of check, write and join, which has no --archive and no --shop; the others have none:
 
   --archive       reads as the archive loader does: a repeated argument of an input replaces the earlier one; otherwise
                   a repeat is refused
@@ -49,19 +52,27 @@ triggers of A, then those of B that are not there yet, repeats left out, and the
 same in both, in the same order. At most four triggers may be left. Entries are the same if they are read alike, as
 `every 1h` and `every 60m` are, or a lamp's name and its number. The topics of A count as those of an earlier rule for B.
 
+write reads the rule as check does, and prints it in the one form in which a controller's lists are written: on one
+line, one space between any two words, numbers and signs, ids in the place of names, and `adapter=` where the adapter is
+not the primary one. With the same sheet and options, --shop aside, the text is read as the same rule, which is proved.
+What was left out of the original, as its comments, or is written otherwise goes to standard error, so that
+`rules write A SHEET > B` gives a file with the rule alone. What stands on an adapter that no row lists is refused with
+56.
+
 chains is for comparing readers. It takes no files and prints the 636 chains of one to four conditions, joined by `and`,
 that are accepted and have at most fifteen words, numbers and signs, all of these:
 lamp sun time is in on off up down sunrise sunset level and 0 63 64 ( ) . .. == + -
 Shorter ones come first, then they follow the order of this line, word by word.
 
 check prints each trigger and each condition in plain words, or one refusal: its place, what stands there, what belongs
-there, and a way out; so does join. Days, as in `at 7:05 on sun, mon..fri` or `day in sat, sun`, are shown from Monday
-to Sunday however the rule has them, three or more in a row by the first and the last: `mon to fri, sun`. The last line
-begins with `accepted`, or with `refused` and the refusal's number; that of same with `same` or `different`, or with
-`refused` and the number if one of the texts is refused with 1, 4 or 10 to 19. If the arguments are bad or a file cannot
-be read, it says that behind `refused`. The exit status of this program is always 0, since its language cannot set
-another. The script ./rules, which runs it, gives 0 for accepted and same, 1 for refused and different, 2 for bad
-arguments and for files that cannot be read.
+there, and a way out; so do join and, for a refusal, write. Days, as in `at 7:05 on sun, mon..fri` or `day in sat, sun`,
+are shown from Monday to Sunday however the rule has them, three or more in a row by the first and the last:
+`mon to fri, sun`. The last line begins with `accepted`, or with `refused` and the refusal's number; that of same with
+`same` or `different`, or with `refused` and the number if one of the texts is refused with 1, 4 or 10 to 19; that of
+write with `when`, since it is the rule. If the arguments are bad or a file cannot be read, it says that behind
+`refused`. The exit status of this program is always 0, since its language cannot set another. The script ./rules, which
+runs it, gives 0 for accepted, written and same, 1 for refused and different, 2 for bad arguments and for files that
+cannot be read.
 ",
     );
 }
@@ -78,10 +89,11 @@ fn bad_arguments(wrong: u32) {
 7 nothing stands behind chains
 8 same takes two files, both of them rules, and no option; before the name of a file that begins with a dash write ./
 9 join takes three files: two rules and a name sheet
-10 --archive and --shop do not go together with join, which reads both rules without them";
+10 --archive and --shop do not go together with join, which reads both rules without them
+11 write takes two files: a rule and a name sheet";
     out::entry(table, wrong);
     out::bytes(
-        b"\nusage: rules check [--archive | --shop] [--party P] [--primary A] [--topics FILE] RULES SHEET | rules tokens RULES | rules same A B | rules join [--party P] [--primary A] [--topics FILE] A B SHEET | rules chains | rules help\nrefused: bad arguments\n",
+        b"\nusage: rules check [--archive | --shop] [--party P] [--primary A] [--topics FILE] RULES SHEET | rules tokens RULES | rules same A B | rules join [--party P] [--primary A] [--topics FILE] A B SHEET | rules write [--archive | --shop] [--party P] [--primary A] [--topics FILE] RULES SHEET | rules chains | rules help\nrefused: bad arguments\n",
     );
 }
 
@@ -91,14 +103,14 @@ fn is_help(command: &[u8]) -> bool {
         || text::part::same(command, b"-h")
 }
 
-// Checks a rule: behind the options stand its file and the sheet's, and nothing else.
-fn check(count: usize) {
-    let o = options::before_files(count, 2, 1);
+// Checks a rule, or writes it: behind the options stand its file and the sheet's, and nothing else; `wrong` is what is wrong otherwise.
+fn check(count: usize, writes: bool, wrong: u32) {
+    let o = options::before_files(count, 2, wrong);
     if o.wrong != 0 {
         bad_arguments(o.wrong);
         return;
     }
-    checking::run(o, count);
+    checking::run(o, writes, count);
 }
 
 // Joins two rules: behind the options stand their files and the sheet's, and nothing else.
@@ -157,6 +169,10 @@ fn run(command: &[u8], count: usize) {
         join(count);
         return;
     }
+    if text::part::same(command, b"write") {
+        check(count, true, 11);
+        return;
+    }
     if text::part::same(command, b"chains") {
         chains(count);
         return;
@@ -165,7 +181,7 @@ fn run(command: &[u8], count: usize) {
         bad_arguments(0);
         return;
     }
-    check(count);
+    check(count, false, 1);
 }
 
 fn main() {

@@ -3,6 +3,8 @@
 use model::Answer;
 use sheet::Call;
 use sheet::Habit;
+use writing::Lists;
+use writing::Written;
 
 // Reads a rule text with a sheet and the lent topics of earlier rules, by a call; 0, or the number of the refusal. Answer has its nine rows of twelve words.
 pub fn read(
@@ -55,7 +57,7 @@ pub fn join(
     )
 }
 
-// Reads a rule text as joining does, as values, whose words go to the answer, too.
+// Reads a rule text by a call as values, whose words go to the answer, too.
 pub fn values(
     call: Call,
     text: &[u8],
@@ -64,9 +66,16 @@ pub fn values(
     words: &mut [u32],
     answer: &mut [u32],
 ) -> Answer {
-    let a = reader::read::read(text, sheet, lent, call.party, call.primary, words);
+    let a = reader::read::read_by(call, text, sheet, lent, words);
     flat::put_answer(answer, a);
     a
+}
+
+// Writes the lists of a rule that was read into a lent buffer, as text; the habit has no part in it.
+pub fn write(call: Call, text: &[u8], sheet: &[u8], l: Lists, into: &mut [u8]) -> Written {
+    let party = call.party;
+    let primary = call.primary;
+    writer::write(text, b"", sheet, party, primary, l, into)
 }
 
 // The sheet's own primary adapter; 0 where it names none.

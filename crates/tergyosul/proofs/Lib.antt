@@ -2,3 +2,4 @@ mod ChainLaws
 mod JoiningLaws
 mod NumberLaws
 mod RoomLaws
+mod WritingLaws

@@ -1,5 +1,5 @@
--- No answer has the number `noRoom`: the result of `tergyosul_read`, of `tergyosul_read_archive`, of `tergyosul_read_shop`, of `tergyosul_join` or of `tergyosul_next_chain`
--- is that number just where there is no room.
+-- No answer has the number `noRoom`: the result of `tergyosul_read`, of `tergyosul_read_archive`, of `tergyosul_read_shop`, of `tergyosul_join`, of `tergyosul_write` or of
+-- `tergyosul_next_chain` is that number just where there is no room.
 use Prim.Native.Nat.{ℕ, _<_, _≤_}
 use native.Mathlib.Omega.{arith}
 use mathlib.Core.Path.{_≡_, refl}
@@ -9,6 +9,7 @@ use lib.ListN.{length}
 use lib.Dec.{ltb, eqb}
 use borrow.Author.Tests.{ltb-true}
 use Rattle.text.specs.Choice.{pick}
+use Rattle.text.proofs.Tests.{picked}
 use Rattle.text.specs.Utf8.{Character}
 use Rattle.text.specs.Place.{checkOf}
 use Rattle.text.specs.declared.place.Checked.{Checked}
@@ -34,8 +35,11 @@ use Rattle.join.specs.Join.{Taken, Join, triggersIn, conditionsIn, joinedTrigge
 use Rattle.join.specs.declared.Joined.{Joined}
 use Rattle.chains.specs.Listed.{chain, refused}
 use Rattle.chains.specs.Way.{following, isStart, nextOf}
+use Rattle.writing.specs.declared.Lists as written
+use Rattle.writing.specs.Writing as writing
 use Rattle.tergyosul.specs.Chains.{chainAnswerWords}
 use Rattle.tergyosul.specs.Room.{noRoom, byRoom}
+use Rattle.tergyosul.specs.Writing.{writeAnswerWords}
 
 -- "No refusal has this number."
 alone : (needed : ℕ) (answer : List ℕ) (n : ℕ) → n < noRoom → byRoom needed answer noRoom n ≡ noRoom → length answer < needed
@@ -158,3 +162,36 @@ module _ (party primary : ℕ) (first second sheet : List ℕ) (lent : List (Lis
       byRoom answerWords answer noRoom (joinOf party primary first second sheet lent words others .joined .answer .number) ≡ noRoom →
       length answer < answerWords
   no-join-alone answer e = alone answerWords answer _ (let known = join-known in omega arith) e
+
+-- writing says 3, or 53 to 56
+abbrev Written-known : writing.Outcome → Type 0
+Written-known o = Known (o .answer .number)
+
+module _ (view : View) (first second : List ℕ) (l : written.Lists) (out : List ℕ) where
+  possible-known : Written-known (writing.byPossible view first second l out)
+  unfolding writing.byPossible writing.byReached writing.refusedAt writing.writtenWith
+  possible-known =
+      picked Written-known (writing.possibleCounts l)
+      (λ _. picked Written-known (eqb (writing.firstImpossible first second l) 0)
+      (λ _. picked Written-known (eqb (writing.firstUnreached view l) 0) (λ _. omega arith) (λ _. omega arith)) (λ _. omega arith))
+      (λ _. omega arith)
+
+  room-known : (own : Bool) → Written-known (writing.byRoom view first second l out own)
+  unfolding writing.byRoom writing.refusedAt
+  room-known true = picked Written-known (ltb (length out) writing.leastBytes) (λ _. omega arith) (λ _. possible-known)
+  room-known false = omega arith
+
+  by-sheet-known : (own : Bool) (s : Sheet) → Written-known (writing.bySheet view first second l out own s)
+  unfolding writing.bySheet writing.refusedAt
+  by-sheet-known own well-formed = room-known own
+  by-sheet-known own (bad-line n) = omega arith
+
+module _ (party primary : ℕ) (first second sheet : List ℕ) (l : written.Lists) (out : List ℕ) where
+  write-known : Written-known (writing.writeOf party primary first second sheet l out)
+  unfolding writing.writeOf
+  write-known = by-sheet-known (seen (ruleCall party primary) sheet) first second l out (ownPrimary (ruleCall party primary) sheet) (sheetCheck sheet)
+
+  pub no-write-alone : (answer : List ℕ) →
+      byRoom writeAnswerWords answer noRoom (writing.writeOf party primary first second sheet l out .answer .number) ≡ noRoom →
+      length answer < writeAnswerWords
+  no-write-alone answer e = alone writeAnswerWords answer _ (let known = write-known in omega arith) e

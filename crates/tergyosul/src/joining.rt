@@ -8,7 +8,7 @@ ghost use Rattle.tergyosul.specs.Room.{noRoom, byRoom};
 ghost use Rattle.tergyosul.specs.Joining.{conditionsFrom, flatJoined};
 
 // Where in row 0 the text that is refused stands; those of the triggers and that of the conditions follow.
-const WHICH: usize = 6;
+pub const WHICH: usize = 6;
 
 // The text of the conditions: the first, if there are any.
 fn conditions_from(j: Joined) -> u32

@@ -1,6 +1,8 @@
 // The library for C and Rust: numbers and slices only. A slice is passed as a pointer and a length.
 pub mod chain;
 pub mod joining;
+pub mod lists;
+pub mod written;
 
 use sheet::Call;
 use sheet::Habit;

@@ -1,4 +1,5 @@
 // The words of the program `rules`: what it says of entries, names, tokens and faults, and its options and files. It is proved safe and to end.
+pub mod aside;
 pub mod day;
 pub mod fault;
 pub mod files;
@@ -13,6 +14,7 @@ pub mod options;
 pub mod out;
 pub mod parts;
 pub mod reference;
+pub mod rewritten;
 pub mod rows;
 pub mod say;
 pub mod seen;
@@ -25,4 +27,5 @@ pub mod stands;
 pub mod title;
 pub mod topic;
 pub mod trial;
+pub mod unlisted;
 pub mod value;

@@ -1,4 +1,4 @@
-// The options of `rules check` and `rules join`, which stand before their files.
+// The options of `rules check`, `rules join` and `rules write`, which stand before their files.
 
 // What stands for a number where none from 0 to 255 is given.
 pub const NONE: u32 = 256;

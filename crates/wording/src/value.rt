@@ -37,7 +37,7 @@ fn added(low: u32, high: u32) {
 }
 
 // What a reading is of: 1 a lamp, 2 a group, 4 an input, 5 a variable, 0 none of these.
-fn kind_of(code: u32) -> u32 {
+pub fn kind_of(code: u32) -> u32 {
     if code <= 4 {
         return 1;
     }

@@ -4,11 +4,13 @@ mod chain;
 mod join;
 mod lines;
 mod settings;
+mod writing;
 
 pub use chain::{pieces, write_start, written, Start, MOST_PIECES, VOCABULARY};
 pub use join::{write_join, Join};
 pub use lines::{fields, lines};
 pub use settings::{own_primary, Habit, Settings};
+pub use writing::{write_writing, Flat, List, Row, Writing, ENTRY, ROWS};
 
 use std::io::{self, BufRead, Write};
 
@@ -117,6 +119,8 @@ pub enum Next {
     Chain(Start),
     /// A `join` line (document 02 §3).
     Join(Join),
+    /// A `write` line (document 02 §7).
+    Writing(Box<Writing>),
     End,
     /// The input is not in the replay format.
     Bad,
@@ -181,6 +185,7 @@ pub fn read_case(input: &mut impl BufRead) -> io::Result<Next> {
     match words[..] {
         ["next", id, size, count] => return chain::read(input, id, size, count),
         ["join", ref fields @ ..] => return <[&str; 9]>::try_from(fields).map_or(Ok(Next::Bad), |fields| join::read(input, fields)),
+        ["write", ref fields @ ..] => return <[&str; 7]>::try_from(fields).map_or(Ok(Next::Bad), |fields| writing::read(input, fields)),
         _ => {}
     }
     let Some(Header { mut case, text, sheet, topics }) = header(line) else { return Ok(Next::Bad) };
@@ -216,19 +221,22 @@ pub fn write_case(out: &mut impl Write, case: &Case) -> io::Result<()> {
     Ok(())
 }
 
-/// Answers every case of `input`, every start of a chain and every join on `out`, as the replay format orders it.
+/// Answers every case of `input`, every start of a chain, every join and every two lists to be written on `out`, as the replay format
+/// orders it.
 pub fn replay(
     input: &mut impl BufRead,
     out: &mut impl Write,
     answer: impl Fn(&Case) -> String,
     next: impl Fn(&Start) -> String,
     join: impl Fn(&Join) -> String,
+    write: impl Fn(&Writing) -> String,
 ) -> io::Result<()> {
     loop {
         match read_case(input)? {
             Next::Case(case) => out.write_all(answer(&case).as_bytes())?,
             Next::Chain(start) => out.write_all(next(&start).as_bytes())?,
             Next::Join(two) => out.write_all(join(&two).as_bytes())?,
+            Next::Writing(lists) => out.write_all(write(&lists).as_bytes())?,
             Next::End => return Ok(()),
             Next::Bad => return out.write_all(b"bad input\n"),
         }

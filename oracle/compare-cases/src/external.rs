@@ -1,6 +1,6 @@
 //! A replay program, fed through pipes.
 
-use cases::{write_case, write_join, Case, Join};
+use cases::{write_case, write_join, write_writing, Case, Join, Writing};
 use std::io::{self, BufWriter, Read};
 use std::path::PathBuf;
 use std::process::{Child, ChildStdin, Command, Stdio};
@@ -28,6 +28,11 @@ impl External {
         self.answers_to(joins.len(), |input| joins.iter().try_for_each(|join| write_join(input, join)))
     }
 
+    /// And for lists to be written.
+    pub fn written(&self, writings: &[Writing]) -> io::Result<Vec<String>> {
+        self.answers_to(writings.len(), |input| writings.iter().try_for_each(|writing| write_writing(input, writing)))
+    }
+
     /// The answer to one case alone.
     pub fn answer(&self, case: &Case) -> String {
         only(self.answers(std::slice::from_ref(case)))
@@ -36,6 +41,11 @@ impl External {
     /// The answer to one join alone.
     pub fn joined_alone(&self, join: &Join) -> String {
         only(self.joined(std::slice::from_ref(join)))
+    }
+
+    /// The answer to one `write` line alone.
+    pub fn written_alone(&self, writing: &Writing) -> String {
+        only(self.written(std::slice::from_ref(writing)))
     }
 
     /// So many answers to what `write` writes. One process for each call, so that memory is bounded by the batch.

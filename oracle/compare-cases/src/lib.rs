@@ -18,9 +18,11 @@ mod repeats;
 pub mod run;
 mod sheets;
 pub mod shrink;
+mod tally;
 mod tokens;
 mod topics;
 pub mod vectors;
+pub mod writings;
 
 #[cfg(test)]
 mod layout_tests;

@@ -1,7 +1,7 @@
 //! Compares the supplied Rust, the second reader and a replay program on generated cases. Exit 0 means that they
 //! agree and that everything was covered, 1 that not, 2 that the run itself failed.
 
-use cases::{first_line, write_case, write_join, Case, Join};
+use cases::{first_line, write_case, write_join, write_writing, Case, Join, List, Writing};
 use compare_cases::batches::Counts;
 use compare_cases::external::External;
 use compare_cases::features::Coverage;
@@ -10,6 +10,7 @@ use compare_cases::options::{self, Options, Stored, Vectors};
 use compare_cases::readers::{quiet_panics, Other, Readers};
 use compare_cases::run::{run, smallest, Difference, Outcome, Plan};
 use compare_cases::vectors;
+use compare_cases::writings::{coverage as of_writings, run as writing};
 use std::fs::File;
 use std::io;
 use std::process::ExitCode;
@@ -44,7 +45,7 @@ fn plan<'a>(options: &Options, make: &'a (dyn Fn(u64) -> Case + Sync), count: u6
     Plan { make, count, batch: options.batch, threads: options.threads, progress: true }
 }
 
-/// The generated cases and joins, then the exhaustive cases; true if nothing differed and nothing was left uncovered.
+/// The generated cases, joins and lists, then the exhaustive cases; true if nothing differed and nothing was left uncovered.
 fn compare(options: &Options, readers: &Readers) -> io::Result<bool> {
     let mut coverage = Coverage::default();
     let generated = |index| generate::case(options.seed, options.from + index);
@@ -53,6 +54,7 @@ fn compare(options: &Options, readers: &Readers) -> io::Result<bool> {
         return Ok(false);
     }
     let Some(of_joins) = compare_joins(options, readers)? else { return Ok(false) };
+    let Some(of_writings) = compare_writings(options, readers)? else { return Ok(false) };
     for length in 0..=options.exhaustive.unwrap_or(0) {
         let count = if options.exhaustive.is_some() { generate::exhaustive_count(length) } else { 0 };
         let make = |index| generate::exhaustive_case(length, index);
@@ -64,13 +66,17 @@ fn compare(options: &Options, readers: &Readers) -> io::Result<bool> {
         }
     }
     let mut zeros = Vec::new();
-    if coverage.cases > 0 || of_joins.joins == 0 {
+    if coverage.cases > 0 || of_joins.joins + of_writings.writings == 0 {
         coverage.print(&mut io::stdout())?;
         zeros.extend(coverage.zeros());
     }
     if of_joins.joins > 0 {
         of_joins.print(&mut io::stdout())?;
         zeros.extend(of_joins.zeros());
+    }
+    if of_writings.writings > 0 {
+        of_writings.print(&mut io::stdout())?;
+        zeros.extend(of_writings.zeros());
     }
     if !zeros.is_empty() {
         println!("not covered: {}", zeros.join(", "));
@@ -119,6 +125,57 @@ fn report_join(options: &Options, readers: &joining::Readers, difference: &joini
     println!("--- {}\n{}", small.other.name(), small.answer);
     let Some(path) = &options.smallest else { return Ok(()) };
     write_join(&mut File::create(path)?, &small.join)
+}
+
+/// The lists to be written; nothing if some differ.
+fn compare_writings(options: &Options, readers: &Readers) -> io::Result<Option<of_writings::Coverage>> {
+    let reads = generate::Reads { call: second::flat_of_call, join: second::flat_of_join };
+    let make = |index| generate::writing(options.seed, options.from + index, reads);
+    if options.writings > 0 {
+        eprintln!("{} lists to be written of seed {} from {}", options.writings, options.seed, options.from);
+    }
+    writings_part(options, readers, &make, options.writings)
+}
+
+fn writings_part(
+    options: &Options,
+    readers: &Readers,
+    make: &(dyn Fn(u64) -> Writing + Sync),
+    count: u64,
+) -> io::Result<Option<of_writings::Coverage>> {
+    let plan = Plan { make, count, batch: options.batch, threads: options.threads, progress: true };
+    let Readers { second: call, in_domain, supplied, .. } = *readers;
+    let replay = readers.replay.clone();
+    let readers = writing::Readers { write: &second::write, call, read: &second::flat_of_call, in_domain, supplied, replay };
+    match writing::run(&plan, &readers)? {
+        writing::Outcome::Same(coverage) => Ok(Some(coverage)),
+        writing::Outcome::Different(difference) => {
+            report_writing(options, &readers, &difference)?;
+            Ok(None)
+        }
+    }
+}
+
+/// Prints the smallest lists found on which two readers differ, and both answers.
+fn report_writing(options: &Options, readers: &writing::Readers, difference: &writing::Difference) -> io::Result<()> {
+    println!("{} differs from the second reader on lists {}; making them smaller", difference.other.name(), difference.writing.id);
+    if !difference.alone {
+        println!("on these lists alone it does not: those before them in the batch matter");
+    }
+    let small = writing::smallest(difference, readers);
+    let Writing { texts, sheet, lists, .. } = &small.writing;
+    println!("{}", small.writing.first_line());
+    println!("{}\n{}\n{}\n{:?}", texts[0].escape_ascii(), texts[1].escape_ascii(), sheet.escape_ascii(), lists.counts);
+    for (list, letter) in List::BOTH.into_iter().zip(["T", "C"]) {
+        lists.used(list).iter().for_each(|row| println!("{letter} {} {:?}", row.from, row.words));
+    }
+    if small.other == writing::Other::Beside {
+        println!("beside it\n{}", writing::beside(&small.writing).sheet.escape_ascii());
+    }
+    println!("--- the second reader\n{}", readers.write(&small.writing));
+    println!("--- {}\n{}", small.other.name(), small.answer);
+    let Some(path) = &options.smallest else { return Ok(()) };
+    write_writing(&mut File::create(path)?, &small.writing)
 }
 
 fn part(options: &Options, readers: &Readers, plan: &Plan, coverage: &mut Coverage) -> io::Result<bool> {
@@ -182,13 +239,19 @@ fn store(options: &Options, chosen: &[Case], input: &str, output: &str, readers:
     if !part(options, readers, &plan(options, &again, chosen.len() as u64), &mut Coverage::default())? {
         return Ok(false);
     }
-    let (starts, joins) = (generate::chains::starts(second::chains()), generate::stored_joins());
+    let starts = generate::chains::starts(second::chains());
+    let behind = vectors::Behind { starts, joins: generate::stored_joins(), writings: generate::stored_writings() };
+    let vectors::Behind { starts, joins, writings } = &behind;
     let join_again = |index| joins[index as usize].clone();
-    if joins_part(options, readers, &join_again, joins.len() as u64)?.is_none() {
+    let write_again = |index| writings[index as usize].clone();
+    if joins_part(options, readers, &join_again, joins.len() as u64)?.is_none()
+        || writings_part(options, readers, &write_again, writings.len() as u64)?.is_none()
+    {
         return Ok(false);
     }
-    vectors::write(chosen, &starts, &joins, input, output, readers.second)?;
-    println!("{} cases written, {} starts of chains and {} joins", chosen.len(), starts.len(), joins.len());
+    vectors::write(chosen, &behind, input, output, readers.second)?;
+    let [starts, joins, writings] = [starts.len(), joins.len(), writings.len()];
+    println!("{} cases written, {starts} starts of chains, {joins} joins and {writings} lists to be written", chosen.len());
     let short = vectors::short_of(chosen, readers.second);
     if !short.is_empty() {
         println!("too few cases for: {}", short.join(", "));

@@ -1,6 +1,7 @@
 //! Making a case small while it still shows what it showed.
 
-use cases::{Case, Join, LEAST_WORDS as USUAL_WORDS};
+use cases::{Case, Join, List, Row, Writing, ENTRY, LEAST_WORDS as USUAL_WORDS, ROWS};
+use generate::roles::{roles, Role};
 
 type Split = fn(&[u8]) -> Vec<&[u8]>;
 
@@ -88,6 +89,110 @@ pub fn shrink_join(join: &Join, tries: usize, shows: &mut dyn FnMut(&Join) -> bo
             return best;
         }
     }
+}
+
+/// Lists that are easier to read: with the usual buffer, of party 0, and with a sheet without others or without rows.
+const PLAINER_WRITINGS: [fn(&Writing) -> Writing; 4] = [
+    |writing| Writing { size: USUAL_BYTES, ..writing.clone() },
+    |writing| Writing { party: 0, primary: 0, ..writing.clone() },
+    |writing| {
+        let rows: Vec<&[u8]> = lines(&writing.sheet).into_iter().filter(|row| !row.starts_with(b"party,")).collect();
+        Writing { party: 0, primary: 0, sheet: rows.concat(), ..writing.clone() }
+    },
+    |writing| Writing { party: 0, primary: 0, sheet: b"primary,0\n".to_vec(), ..writing.clone() },
+];
+
+const USUAL_BYTES: usize = 4_096;
+const LONG: usize = 2_000;
+
+/// The same for lists to be written: entries, words, both texts and the sheet.
+pub fn shrink_writing(writing: &Writing, tries: usize, shows: &mut dyn FnMut(&Writing) -> bool) -> Writing {
+    let mut left = tries;
+    let mut shows = |writing: &Writing| {
+        left = left.saturating_sub(1);
+        left > 0 && shows(writing)
+    };
+    let weight = |writing: &Writing| {
+        let words = List::BOTH.iter().flat_map(|list| writing.lists.rows(*list)).flat_map(|row| row.words).filter(|&word| word != 0).count();
+        writing.texts[0].len() + writing.texts[1].len() + writing.sheet.len() + words
+    };
+    let mut best = writing.clone();
+    loop {
+        let size = weight(&best);
+        let mut take = |best: &mut Writing, lighter: Writing| {
+            if lighter != *best && weight(&lighter) <= weight(best) && shows(&lighter) {
+                *best = lighter;
+            }
+        };
+        for plainer in PLAINER_WRITINGS {
+            let lighter = plainer(&best);
+            take(&mut best, lighter);
+        }
+        for (list, at) in List::BOTH.into_iter().flat_map(|list| (0..ROWS).rev().map(move |at| (list, at))) {
+            let lighter = without_entry(&best, list, at);
+            take(&mut best, lighter);
+        }
+        let lighter = with_names_alone(&best);
+        take(&mut best, lighter);
+        for (list, row, at) in List::BOTH.into_iter().flat_map(|list| (0..ROWS * ENTRY).map(move |at| (list, at / ENTRY, at % ENTRY))) {
+            for word in [0, 1] {
+                let mut plainer = best.clone();
+                plainer.lists.rows_mut(list)[row].words[at] = word;
+                if best.lists.rows(list)[row].words[at] > word && shows(&plainer) {
+                    best = plainer;
+                }
+            }
+        }
+        for split in [lines as Split, bytes] {
+            best.sheet = drop_pieces(&best.sheet, split, &mut |sheet| shows(&Writing { sheet: sheet.to_vec(), ..best.clone() }));
+        }
+        // A text that must be long stays so.
+        for nth in [0, 1] {
+            if best.texts[nth].len() > LONG {
+                continue;
+            }
+            best.texts[nth] = drop_pieces(&best.texts[nth], bytes, &mut |text| {
+                let mut shorter = best.clone();
+                shorter.texts[nth] = text.to_vec();
+                shows(&shorter)
+            });
+        }
+        if weight(&best) == size {
+            return best;
+        }
+    }
+}
+
+/// The lists with texts that have the names and nothing else, as far as these are inside their texts.
+fn with_names_alone(writing: &Writing) -> Writing {
+    let mut shorter = writing.clone();
+    let mut texts = [Vec::new(), Vec::new()];
+    for list in List::BOTH {
+        for (row, used) in writing.lists.used(list).iter().enumerate() {
+            let Some(nth) = [1, 2].iter().position(|from| *from == used.from) else { continue };
+            for at in (0..ENTRY).filter(|&at| matches!(roles(list, &used.words)[at], Role::Start(_))) {
+                let [start, length] = [used.words[at], used.words[at + 1]].map(|word| word as usize);
+                let Some(name) = writing.texts[nth].get(start..start + length) else { return shorter };
+                shorter.lists.rows_mut(list)[row].words[at] = texts[nth].len() as u32;
+                texts[nth].extend_from_slice(name);
+            }
+        }
+    }
+    shorter.texts = texts;
+    shorter
+}
+
+/// The lists without the entry in this row, if it is in use; else the row empty.
+fn without_entry(writing: &Writing, list: List, at: usize) -> Writing {
+    let mut fewer = writing.clone();
+    if at < writing.lists.used(list).len() {
+        fewer.lists.counts[list as usize] -= 1;
+        fewer.lists.rows_mut(list)[at..].rotate_left(1);
+        fewer.lists.rows_mut(list)[ROWS - 1] = Row::default();
+    } else {
+        fewer.lists.rows_mut(list)[at] = Row::default();
+    }
+    fewer
 }
 
 /// The most conditions of a text.

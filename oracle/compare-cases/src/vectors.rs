@@ -2,7 +2,7 @@
 
 use crate::features::{feature_count, feature_name, Features};
 use crate::readers::{guarded, Reader};
-use cases::{read_case, write_case, write_join, write_start, Case, Join, Next, Start};
+use cases::{read_case, write_case, write_join, write_start, write_writing, Case, Join, Next, Start, Writing};
 use std::collections::HashMap;
 use std::fs::File;
 use std::io::{self, BufReader, BufWriter, Write};
@@ -136,14 +136,14 @@ pub fn choose(want: usize, scan: u64, make: &dyn Fn(u64) -> Case, landmarks: Vec
     chosen
 }
 
-/// The cases of a file of replay input. The starts of chains and the joins behind them are left out: they are made anew when cases are written.
+/// The cases of a file of replay input. What is behind them is left out: it is made anew when cases are written.
 pub fn stored(input: &str) -> io::Result<Vec<Case>> {
     let mut file = BufReader::new(File::open(input)?);
     let mut cases = Vec::new();
     loop {
         match read_case(&mut file)? {
             Next::Case(case) => cases.push(case),
-            Next::Chain(_) | Next::Join(_) => {}
+            Next::Chain(_) | Next::Join(_) | Next::Writing(_) => {}
             Next::End => return Ok(cases),
             Next::Bad => return Err(io::Error::other(format!("{input} is no replay input"))),
         }
@@ -176,24 +176,35 @@ pub fn short_of(cases: &[Case], second: Reader) -> Vec<String> {
     (0..counts.len()).filter(|&feature| counts[feature] < at_least(feature)).map(feature_name).collect()
 }
 
-/// Writes the cases as replay input to one file and the second reader's answers to the other; behind them the starts of chains
-/// (document 02 §13), and behind those the joins (§3), numbered on.
-pub fn write(cases: &[Case], starts: &[Start], joins: &[Join], input: &str, output: &str, second: Reader) -> io::Result<()> {
+/// What is stored behind the cases: the starts of chains (document 02 §13), the joins (§3) and the lists to be written (§7).
+pub struct Behind {
+    pub starts: Vec<Start>,
+    pub joins: Vec<Join>,
+    pub writings: Vec<Writing>,
+}
+
+/// Writes the cases as replay input to one file and the second reader's answers to the other, and the others behind them, numbered on.
+pub fn write(cases: &[Case], behind: &Behind, input: &str, output: &str, second: Reader) -> io::Result<()> {
     let (mut to_input, mut to_output) = (BufWriter::new(File::create(input)?), BufWriter::new(File::create(output)?));
     for case in cases {
         write_case(&mut to_input, case)?;
         to_output.write_all(guarded(second, case).as_bytes())?;
     }
-    let first = cases.last().map_or(1, |last| last.id + 1);
-    for (start, id) in starts.iter().zip(first..) {
+    let mut ids = cases.last().map_or(1, |last| last.id + 1)..;
+    for (start, id) in behind.starts.iter().zip(ids.by_ref()) {
         let start = Start { id, ..start.clone() };
         write_start(&mut to_input, &start)?;
         to_output.write_all(second::next(&start).as_bytes())?;
     }
-    for (join, id) in joins.iter().zip(first + starts.len() as u64..) {
+    for (join, id) in behind.joins.iter().zip(ids.by_ref()) {
         let join = Join { id, ..join.clone() };
         write_join(&mut to_input, &join)?;
         to_output.write_all(second::join(&join).as_bytes())?;
+    }
+    for (writing, id) in behind.writings.iter().zip(ids.by_ref()) {
+        let writing = Writing { id, ..writing.clone() };
+        write_writing(&mut to_input, &writing)?;
+        to_output.write_all(second::write(&writing).as_bytes())?;
     }
     to_input.flush()?;
     to_output.flush()

@@ -23,6 +23,7 @@ mod sheet;
 mod spell;
 pub mod topics;
 pub mod vocabulary;
+mod writings;
 
 #[cfg(test)]
 mod tests;
@@ -32,9 +33,10 @@ pub use isolation::beside;
 pub use joins::{join, join_of_a_rule, WRONG_TEXTS};
 pub use large::landmarks;
 pub use reflow::{gaps, joins, reflowed, span};
-pub use requests::{requests, stored_joins, LAYOUTS};
+pub use requests::{requests, stored_joins, stored_writings, LAYOUTS};
 pub use respell::respelled;
 pub use rng::Rng;
+pub use writings::{roles, writing, Reads};
 
 use cases::{Case, Habit, FORMER_LEAST_WORDS, LEAST_WORDS, MOST_BYTES, MOST_WORDS};
 use grammar::{Walk, NEVER, OFTEN, SELDOM};

@@ -61,6 +61,21 @@ fn joins_follow_from_their_seed_and_fit_the_replay_format() {
 }
 
 #[test]
+fn lists_follow_from_their_seed_and_fit_the_replay_format() {
+    // Without a reader all lists are made of words.
+    let reads = Reads { call: |_| None, join: |_| None };
+    for index in (0..MANY / 4).chain([u64::MAX]) {
+        let made = writing(SEED, index, reads);
+        assert_eq!(made.id, index);
+        assert!(made.size <= MOST_WORDS && [&made.texts[0], &made.texts[1], &made.sheet].iter().all(|bytes| bytes.len() <= MOST_BYTES), "{index}");
+        if index % 16 == 0 {
+            assert_eq!(made, writing(SEED, index, reads));
+            assert_ne!(made, writing(SEED + 1, index, reads));
+        }
+    }
+}
+
+#[test]
 fn every_kind_of_token_is_written() {
     assert_eq!(never(MANY, parts(&[WORDS, SIGNS, TIMES, DURATIONS, DECIMALS])), Vec::<String>::new());
 }

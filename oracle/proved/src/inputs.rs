@@ -1,7 +1,7 @@
-//! The rules and sheets that the speed of whole calls is measured on, and what both readers say of them.
+//! The rules and sheets that the speed of whole calls is measured on, what both readers say of them, and what is written of their lists.
 
 use crate::Given;
-use cases::{own_primary, Case, MOST_BYTES, RECORD};
+use cases::{own_primary, Case, Writing, MOST_BYTES, RECORD};
 
 /// A call, always the archive loader's, and the name that the table gives it.
 #[derive(Debug)]
@@ -12,6 +12,9 @@ pub struct Input {
 
 pub const WORDS: usize = cases::LEAST_WORDS;
 pub const ANSWER: usize = 108;
+/// The least bytes that a text may be written to, and the words of that answer.
+pub const BYTES: usize = 4_096;
+pub const WRITE_ANSWER: usize = 5;
 const LONGEST: usize = 16_384;
 const UNTOUCHED: u32 = u32::MAX;
 
@@ -226,10 +229,37 @@ impl Input {
     }
 }
 
-/// Both readers must say the same of each input.
+impl Input {
+    /// The text that the proved library writes of the lists that it read; nothing if it refuses the input.
+    pub fn written(&self) -> Option<Vec<u8>> {
+        let (mut words, mut lists) = (vec![0; WORDS], [0; ANSWER]);
+        let (mut text, mut answer) = (vec![0; BYTES], [0; WRITE_ANSWER]);
+        let given = Given::of(&self.case);
+        if crate::read_archive(&self.case.text, given, &mut words, &mut lists) != 0 {
+            return None;
+        }
+        assert_eq!(crate::write(&self.case.text, given, &lists, &mut text, &mut answer), 0, "{}", self.name);
+        text.truncate(answer[4] as usize);
+        Some(text)
+    }
+
+    /// What the second reader writes, as the last line of its answer.
+    fn written_by_the_second(&self) -> Option<String> {
+        let Case { id, text, sheet, .. } = self.case.clone();
+        let (party, primary) = (self.case.party(), self.case.primary());
+        let lists = second::flat_of_call(&self.case)?;
+        let answer = second::write(&Writing { id, size: BYTES, party, primary, texts: [text, Vec::new()], sheet, lists });
+        answer.lines().last().map(String::from)
+    }
+}
+
+/// Both readers must say the same of each input, and the same text must be written.
 pub fn assert_agreed() {
     for input in all() {
         assert_eq!(input.proved().0, input.supplied(), "{}", input.name);
+        let hex = |text: &[u8]| text.iter().map(|byte| format!("{byte:02x}")).collect::<String>();
+        let written = input.written().map(|text| format!("written {} x{}", text.len(), hex(&text)));
+        assert_eq!(written, input.written_by_the_second(), "{}", input.name);
     }
 }
 

@@ -32,6 +32,23 @@ extern "C" {
     ) -> u32;
 
     fn tergyosul_sheet_primary(sheet: *const u8, sheet_length: usize) -> u32;
+
+    fn tergyosul_write(
+        first: *const u8,
+        first_length: usize,
+        second: *const u8,
+        second_length: usize,
+        sheet: *const u8,
+        sheet_length: usize,
+        party: u8,
+        primary: u8,
+        lists: *const u32,
+        lists_length: usize,
+        out: *mut u8,
+        out_length: usize,
+        answer: *mut u32,
+        answer_length: usize,
+    ) -> u32;
 }
 
 /// The whole calls, which all take the same.
@@ -146,6 +163,32 @@ pub fn read_archive(text: &[u8], given: Given, words: &mut [u32], answer: &mut [
 /// The shop call: the default call under the shop profile (document 02 §9).
 pub fn read_shop(text: &[u8], given: Given, words: &mut [u32], answer: &mut [u32]) -> u32 {
     whole_call!(tergyosul_read_shop, text, given, words, answer)
+}
+
+/// Writes the lists of an answer that a whole call gave of the text out as a rule text (document 02 §7). With an answer of fewer than five words
+/// nothing is written.
+pub fn write(text: &[u8], given: Given, lists: &[u32], out: &mut [u8], answer: &mut [u32]) -> u32 {
+    let Given { sheet, party, primary, .. } = given;
+    let second: &[u8] = &[];
+    // SAFETY: each pointer and length is a slice that is borrowed for the call, and the two mutable ones overlap nothing.
+    unsafe {
+        tergyosul_write(
+            text.as_ptr(),
+            text.len(),
+            second.as_ptr(),
+            second.len(),
+            sheet.as_ptr(),
+            sheet.len(),
+            party,
+            primary,
+            lists.as_ptr(),
+            lists.len(),
+            out.as_mut_ptr(),
+            out.len(),
+            answer.as_mut_ptr(),
+            answer.len(),
+        )
+    }
 }
 
 /// The adapter that a sheet's first line names, 0 where it names none.

@@ -28,6 +28,21 @@ impl Days {
         }
     }
 
+    /// DAYS of the flat layout: "the sum of 1 for mon, 2 for tue, 4 for wed, 8 for thu, 16 for fri, 32 for sat and 64 for sun; never 0".
+    pub fn of_sum(sum: u32) -> Option<Days> {
+        let all = (1 << WEEK) - 1;
+        (1..=all).contains(&sum).then(|| Days(std::array::from_fn(|day| sum >> day & 1 == 1)))
+    }
+
+    pub fn sum(&self) -> u32 {
+        (0..).zip(self.0).map(|(day, is_in)| u32::from(is_in) << day).sum()
+    }
+
+    /// The names of the days in the set, from mon on.
+    pub fn names(&self) -> impl Iterator<Item = &'static str> {
+        NAMES.into_iter().zip(self.0).filter(|(_, is_in)| *is_in).map(|(name, _)| name)
+    }
+
     /// DAYS of the replay format: "the digits of the days in the set, 1 for mon to 7 for sun, ascending".
     pub fn digits(&self) -> String {
         (1..).zip(self.0).filter(|(_, is_in)| *is_in).map(|(digit, _): (u8, bool)| digit.to_string()).collect()
@@ -72,5 +87,13 @@ mod tests {
             assert_eq!(range(from, to).len(), (to + WEEK - from) % WEEK + 1);
         }
         assert_eq!((Days::NONE.digits(), Days::ALL.digits()), (String::new(), "1234567".to_string()));
+    }
+
+    #[test]
+    fn a_set_and_its_sum() {
+        let sums: Vec<u32> = (0..300).chain([u32::MAX]).filter_map(Days::of_sum).map(|days| days.sum()).collect();
+        assert_eq!(sums, (1..=127).collect::<Vec<_>>());
+        let names = |sum: u32| Days::of_sum(sum).unwrap().names().collect::<Vec<_>>().join(" ");
+        assert_eq!((names(1), names(127), names(64 + 8 + 1)), ("mon".into(), "mon tue wed thu fri sat sun".into(), "mon thu sun".into()));
     }
 }

@@ -46,7 +46,7 @@ pub fn join(join: &Join) -> String {
 }
 
 /// The topics that a text names.
-fn topics<'a, 'b>(lists: &'b Lists<'a>) -> impl Iterator<Item = &'a [u8]> + use<'a, 'b> {
+pub fn topics<'a, 'b>(lists: &'b Lists<'a>) -> impl Iterator<Item = &'a [u8]> + use<'a, 'b> {
     lists.triggers.iter().filter_map(|trigger| match trigger {
         Trigger::Mqtt(topic) => Some(*topic),
         _ => None,
@@ -55,7 +55,7 @@ fn topics<'a, 'b>(lists: &'b Lists<'a>) -> impl Iterator<Item = &'a [u8]> + use<
 
 /// "After these it refuses two condition lists that differ in entries or order with 51, then more than four triggers left with 52, both at
 /// place 0:0." "The first's conditions are kept."
-fn joined<'a>(first: &Lists<'a>, second: &Lists<'a>) -> Result<Joined<'a>, Refused> {
+pub fn joined<'a>(first: &Lists<'a>, second: &Lists<'a>) -> Result<Joined<'a>, Refused> {
     let refused = |number: u32| Err(Refused { which: 0, refusal: Refusal::new(number, Place::NONE) });
     if first.conditions != second.conditions {
         return refused(51);

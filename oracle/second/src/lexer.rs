@@ -4,7 +4,8 @@ use crate::durations::Duration;
 use crate::refusal::{Place, Refusal};
 use cases::MOST_TOKENS;
 
-const MOST_RUN: u64 = 1_000_000_000;
+/// The most that a digit run may be.
+pub const MOST_RUN: u64 = 1_000_000_000;
 const MOST_PLACES: usize = 4;
 
 /// The kinds 1 to 22, in document 01's order.

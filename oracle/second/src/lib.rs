@@ -6,6 +6,7 @@ mod chains;
 mod conditions;
 mod days;
 mod durations;
+mod flat;
 mod join;
 mod lexer;
 mod model;
@@ -19,16 +20,19 @@ mod sheet;
 mod topics;
 mod triggers;
 mod values;
+mod write;
 
 pub use chains::{chains, next};
+pub use flat::{flat_of_call, flat_of_join};
 pub use join::join;
+pub use write::write;
 
 use buffer::Buffer;
 use cases::{Case, Habit, Lexing, LEAST_WORDS};
 use model::Lists;
 use reader::{Given, Read, Reader, Repeats};
 use refusal::{Place, Refusal};
-use sheet::View;
+use sheet::{Sheet, View};
 use topics::Topics;
 
 const MOST_TEXT: usize = 16_384;
@@ -137,10 +141,20 @@ fn repeats(case: &Case) -> Repeats {
 /// document 02 §6.
 fn admit<'a>(case: &'a Case, buffer: &Buffer) -> Read<(View<'a>, &'a str)> {
     room(&case.text, buffer.len())?;
-    let sheet = sheet::read(&case.sheet).map_err(|line| Refusal::new(3, Place { line, column: 0 }))?;
+    let sheet = well_formed_sheet(&case.sheet)?;
     let text = well_formed(&case.text).map_err(|place| Refusal::new(4, place))?;
-    let view = sheet.seen_by(case.party().into(), case.primary().into()).ok_or(Refusal::new(53, Place::NONE))?;
+    let view = seen(&sheet, case.party(), case.primary())?;
     Ok((view, text))
+}
+
+/// Question 3.
+fn well_formed_sheet(bytes: &[u8]) -> Read<Sheet<'_>> {
+    sheet::read(bytes).map_err(|line| Refusal::new(3, Place { line, column: 0 }))
+}
+
+/// 53.
+fn seen<'a>(sheet: &Sheet<'a>, party: u8, primary: u8) -> Read<View<'a>> {
+    sheet.seen_by(party.into(), primary.into()).ok_or(Refusal::new(53, Place::NONE))
 }
 
 /// The questions 1 and 2; "the buffer at least 5,120 (question 2)", document 02 §5.

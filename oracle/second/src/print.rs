@@ -38,6 +38,15 @@ pub fn joined(id: u64, buffers: [&Buffer; 2], result: &Result<Joined, Refused>) 
     lines.iter().map(|line| format!("{line}\n")).collect()
 }
 
+/// The answer to one `write` line (document 02 §7): whether the bytes past the text stayed, then the refusal, or the text's length and bytes.
+pub fn written(id: u64, kept: bool, result: &Read<Vec<u8>>) -> String {
+    let said = match result {
+        Err(r) => format!("refused {}", refusal(r)),
+        Ok(text) => format!("written {} {}", text.len(), hex(text)),
+    };
+    format!("case {id}\nbuffer {}\n{said}\n", if kept { "kept" } else { "changed" })
+}
+
 /// The token lines of a buffer and its `buffer` line.
 fn left_in(buffer: &Buffer) -> Vec<String> {
     let kept = format!("buffer {}", if buffer.kept() { "kept" } else { "changed" });

@@ -10,8 +10,8 @@ use crate::topics::{self, Topics};
 /// What a part of the parser gives.
 pub type Read<T> = Result<T, Refusal>;
 
-const MOST_NAME: usize = 48;
-const MOST_VAR_TEXT: usize = 16;
+pub const MOST_NAME: usize = 48;
+pub const MOST_VAR_TEXT: usize = 16;
 
 /// What becomes of an input argument that sets one already set.
 #[derive(Debug, Clone, Copy, PartialEq, Eq)]

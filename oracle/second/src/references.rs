@@ -6,9 +6,9 @@ use crate::reader::{in_range, Read, Reader, Repeats};
 use crate::refusal::{Place, Refusal};
 use crate::sheet::{Kind, Row};
 
-const HIGHEST_ADAPTER: u32 = 255;
+pub const HIGHEST_ADAPTER: u32 = 255;
 /// The highest instance, instance group and instance type.
-const HIGHEST_OF_ARGS: u32 = 31;
+pub const HIGHEST_OF_ARGS: u32 = 31;
 const MOST_UNNAMED: usize = 2;
 
 /// What an argument of ARGS sets.

@@ -2,17 +2,23 @@
 
 use crate::days::Days;
 use crate::lexer::Kind as TokenKind;
-use crate::model::{Event, Trigger};
+use crate::model::{Choice, Event, Trigger};
 use crate::reader::{one_of, Read, Reader};
 use crate::references::one_instance;
 use crate::refusal::{Place, Refusal};
 use crate::sheet::Kind;
 
-const HIGHEST_SCENE: u32 = 15;
-const HIGHEST_LEVEL: u32 = 254;
-const HIGHEST_LIGHT: u32 = 1_023;
-const HIGHEST_DATA: u32 = 1_023;
-const SHORTEST_PERIOD: u32 = 1_000;
+pub const HIGHEST_SCENE: u32 = 15;
+pub const HIGHEST_LEVEL: u32 = 254;
+pub const HIGHEST_LIGHT: u32 = 1_023;
+pub const HIGHEST_DATA: u32 = 1_023;
+pub const SHORTEST_PERIOD: u32 = 1_000;
+
+/// The events that have a word of their own.
+pub const EVENTS: &[Choice] = &[
+    "press", "release", "short_press", "double_press", "long_press_start", "long_press_repeat", "long_press_stop",
+    "button_free", "button_stuck", "movement", "no_movement", "any_event",
+];
 
 impl<'a> Reader<'a> {
     /// The first word is taken and then compared: 21.
@@ -167,25 +173,11 @@ impl<'a> Reader<'a> {
 
     /// EVENT: any word, taken and then compared.
     fn event(&mut self) -> Read<Event> {
-        const NAMED: [&str; 12] = [
-            "press",
-            "release",
-            "short_press",
-            "double_press",
-            "long_press_start",
-            "long_press_repeat",
-            "long_press_stop",
-            "button_free",
-            "button_stuck",
-            "movement",
-            "no_movement",
-            "any_event",
-        ];
         let (word, place) = self.any_word()?;
         if word == b"event" {
             return self.raw_event();
         }
-        one_of(word, &NAMED).map(Event::Named).ok_or(Refusal::new(21, place))
+        one_of(word, EVENTS).map(Event::Named).ok_or(Refusal::new(21, place))
     }
 
     /// What follows `event`: (data=0..1023).

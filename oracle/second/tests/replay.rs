@@ -9,12 +9,14 @@ fn cases_one_after_the_other() {
     let first = cases::Case { id: 7, ..case(b"when http trigger", b"primary,0") };
     cases::write_case(&mut input, &first).unwrap();
     cases::write_case(&mut input, &cases::Case { id: 8, ..case(b"", b"") }).unwrap();
-    input.extend_from_slice(b"next 9 15 3\n1 3 7\njoin 10 5120 5119 0 0 17 4 9 0\nwhen http trigger\nwhen\nprimary,0\n\nend\n");
+    input.extend_from_slice(b"next 9 15 3\n1 3 7\njoin 10 5120 5119 0 0 17 4 9 0\nwhen http trigger\nwhen\nprimary,0\n\n");
+    input.extend_from_slice(format!("write 11 4096 0 0 0 1 9\n\na\nprimary,0\n1 0 2 16 0 1{}\nend\n", " 0".repeat(100)).as_bytes());
     let mut out = Vec::new();
-    cases::replay(&mut &input[..], &mut out, second::answer, second::next, second::join).unwrap();
+    cases::replay(&mut &input[..], &mut out, second::answer, second::next, second::join, second::write).unwrap();
     let expected = "case 7\ntoken 1 0 0 4 1 1\ntoken 1 0 5 4 1 6\ntoken 1 0 10 7 1 11\nbuffer kept\naccepted 1 0\n\
                     T http_trigger\ncase 8\nbuffer kept\nrefused 3 1 0 0\n\
                     case 9\nbuffer kept\nchain 1 3 8\ncase 10\ntoken 1 0 0 4 1 1\ntoken 1 0 5 4 1 6\n\
-                    token 1 0 10 7 1 11\nbuffer kept\nbuffer kept\nrefused 2 2 0 0 0\nbad input\n";
+                    token 1 0 10 7 1 11\nbuffer kept\nbuffer kept\nrefused 2 2 0 0 0\n\
+                    case 11\nbuffer kept\nwritten 24 x7768656e2074696d65722028202261222029206669726573\nbad input\n";
     assert_eq!(String::from_utf8(out).unwrap(), expected);
 }

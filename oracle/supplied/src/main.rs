@@ -7,6 +7,7 @@ fn main() -> io::Result<()> {
     let outside = |id: u64| format!("case {id}\noutside the domain\n");
     let no_generator = |start: &cases::Start| outside(start.id);
     let no_join = |join: &cases::Join| outside(join.id);
-    cases::replay(&mut io::stdin().lock(), &mut out, supplied::answer, no_generator, no_join)?;
+    let no_writer = |writing: &cases::Writing| outside(writing.id);
+    cases::replay(&mut io::stdin().lock(), &mut out, supplied::answer, no_generator, no_join, no_writer)?;
     out.flush()
 }

@@ -15,7 +15,7 @@ use crate::vocabulary::{DAYS, LENT_ODDITIES, TOPICS};
 use crate::{damage, large, parties, spoil_sheet, text, words, LONGEST_TEXT};
 use cases::{Habit, Join, LEAST_WORDS, MOST_BYTES, MOST_TOKENS};
 use entry::{same_length, Entry};
-use scope::Scope;
+pub use scope::Scope;
 use std::borrow::Cow;
 use wording::Wording;
 pub use wrong::WRONG_TEXTS;
@@ -27,9 +27,9 @@ const MOST_TOPICS: usize = 8;
 
 /// A rule, without the words for it.
 #[derive(Debug, Clone)]
-struct Rule {
-    triggers: Vec<Entry>,
-    conditions: Vec<Entry>,
+pub struct Rule {
+    pub triggers: Vec<Entry>,
+    pub conditions: Vec<Entry>,
 }
 
 /// The join `index` of the sequence that `seed` gives.
@@ -239,7 +239,7 @@ fn damaged(rng: &mut Rng, scope: &Scope, first: &Rule) -> [Vec<u8>; 2] {
 }
 
 impl Rule {
-    fn any(rng: &mut Rng, scope: &Scope) -> Rule {
+    pub fn any(rng: &mut Rng, scope: &Scope) -> Rule {
         let triggers = rng.pick(&[1, 1, 2, 2, 2, 3, 3, 4, 4]);
         let conditions = rng.pick(&[0, 0, 0, 1, 1, 2, 2, 3, 4]);
         Rule {
@@ -249,7 +249,7 @@ impl Rule {
     }
 
     /// A rule to be joined with this one: mostly with the same conditions, and with some of its triggers.
-    fn beside(&self, rng: &mut Rng, scope: &Scope) -> Rule {
+    pub fn beside(&self, rng: &mut Rng, scope: &Scope) -> Rule {
         let count = rng.pick(&[1, 1, 1, 2, 2, 2, 3, 3, 4, 4]);
         let triggers = entries(rng, scope, count, Entry::trigger, &self.triggers);
         let conditions = if rng.once_in(4) { self.other_conditions(rng, scope) } else { self.conditions.clone() };
@@ -294,7 +294,7 @@ impl Rule {
         wording.out
     }
 
-    fn text(&self, rng: &mut Rng, scope: &Scope) -> Vec<u8> {
+    pub fn text(&self, rng: &mut Rng, scope: &Scope) -> Vec<u8> {
         let tokens = self.tokens(rng, scope);
         spell(rng, &tokens)
     }

@@ -5,9 +5,11 @@ mod joins;
 mod layout;
 mod profile;
 mod sheets;
+mod writings;
 
 pub use joins::joins as stored_joins;
 pub use layout::LAYOUTS;
+pub use writings::writings as stored_writings;
 
 use cases::{Case, Habit, Settings, FORMER_LEAST_WORDS, LEAST_WORDS, MOST_TOKENS, MOST_WORDS};
 

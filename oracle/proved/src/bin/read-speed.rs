@@ -1,28 +1,30 @@
-//! Whole calls of the proved reader and of the supplied Rust on the same inputs: their time, or calls for a program that counts
-//! instructions.
+//! Whole calls of the proved reader and of the supplied Rust on the same inputs, and calls that write the lists out: their time, or calls
+//! for a program that counts instructions.
 
-use proved::inputs::{all, assert_agreed, named, Input, ANSWER, WORDS};
+use proved::inputs::{all, assert_agreed, named, Input, ANSWER, BYTES, WORDS, WRITE_ANSWER};
 use proved::Given;
 use std::hint::black_box;
 use std::process::ExitCode;
 use std::time::Instant;
 
-const USAGE: &str = "read-speed list                        names, bytes, tokens, sheets' bytes and rows, and the answers
+const USAGE: &str = "read-speed list                        names, bytes, tokens, sheets' bytes and rows, the answers, and the bytes that are written
 read-speed time                        nanoseconds for a call, the least of many rounds
-read-speed count READER INPUT CALLS    only calls; READER is proved, supplied or sheet";
+read-speed count READER INPUT CALLS    only calls; READER is proved, supplied, sheet or write";
 /// A round lasts about a millisecond, and there are so many of them.
 const ROUNDS: usize = 400;
 const ROUND_NANOSECONDS: u128 = 1_000_000;
 
-/// What a caller lends to the proved reader.
+/// What a caller lends to the proved reader, and for a text to be written.
 struct Lent {
     words: Vec<u32>,
     answer: [u32; ANSWER],
+    text: Vec<u8>,
+    written: [u32; WRITE_ANSWER],
 }
 
 impl Lent {
     fn new() -> Lent {
-        Lent { words: vec![0; WORDS], answer: [0; ANSWER] }
+        Lent { words: vec![0; WORDS], answer: [0; ANSWER], text: vec![0; BYTES], written: [0; WRITE_ANSWER] }
     }
 }
 
@@ -34,6 +36,12 @@ type Call = fn(&Input, &mut Lent);
 fn call_of_the_proved(input: &Input, lent: &mut Lent) {
     let case = &input.case;
     black_box(proved::read_archive(&case.text, Given::of(case), &mut lent.words, &mut lent.answer));
+}
+
+/// One call that writes out what the proved reader read last.
+fn call_of_the_writer(input: &Input, lent: &mut Lent) {
+    let case = &input.case;
+    black_box(proved::write(&case.text, Given::of(case), &lent.answer, &mut lent.text, &mut lent.written));
 }
 
 /// One whole call of the supplied Rust, with the sheet's tables and the rule set made for it, and the freeing of what it gives.
@@ -72,7 +80,8 @@ fn list() -> Option<()> {
     for input in all() {
         let (said, tokens) = input.proved();
         let said = said.replace(' ', "_");
-        println!("{} {} {tokens} {} {} {said}", input.name, input.case.text.len(), input.case.sheet.len(), input.rows());
+        let written = input.written().map_or("-".to_string(), |text| text.len().to_string());
+        println!("{} {} {tokens} {} {} {said} {written}", input.name, input.case.text.len(), input.case.sheet.len(), input.rows());
     }
     Some(())
 }
@@ -82,10 +91,15 @@ fn count(reader: &str, input: &str, calls: &str) -> Option<()> {
         "proved" => call_of_the_proved,
         "supplied" => call_of_the_supplied,
         "sheet" => call_of_the_sheet,
+        "write" => call_of_the_writer,
         _ => return None,
     };
     let input = named(input)?;
     let mut lent = Lent::new();
+    if reader == "write" {
+        // Its lists.
+        call_of_the_proved(&input, &mut lent);
+    }
     for _ in 0..calls.parse().ok()? {
         call(black_box(&input), &mut lent);
     }
