@@ -5,7 +5,6 @@ use model::Conditions;
 use model::Trigger;
 use model::TriggerRow;
 use model::Triggers;
-use reader::parts;
 use sheet::Call;
 use sheet::Habit;
 use topics::ranges::Topic;
@@ -206,8 +205,8 @@ fn refused_both(number: u32) -> Joined
             line: 0,
             column: 0,
             detail: 0,
-            triggers: parts::no_triggers(),
-            conditions: parts::no_conditions(),
+            triggers: model::no_triggers(),
+            conditions: model::no_conditions(),
         },
     )
 }

@@ -60,7 +60,7 @@ given-from {text} {count = count} g n few =
     let e = rules-only (g .octets) (g .lexed) in
     same-lexing (g .most) n text start (subst (λ (x : Lexing). Ended x count) (sym e) (g .finished)) few ∙ e
 
-given : {text : List ℕ} {l : Lexing} {count : ℕ} → Gives text l count → count ≤ mostTokens → lexText text ≡ l
+pub given : {text : List ℕ} {l : Lexing} {count : ℕ} → Gives text l count → count ≤ mostTokens → lexText text ≡ l
 unfolding lexText
 given g few = given-from g mostTokens few
 

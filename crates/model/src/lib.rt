@@ -2,6 +2,8 @@
 pub mod limits;
 
 ghost use mathlib.Core.Path.{_≡_};
+ghost use mathlib.Core.List.{[]};
+ghost use Rattle.model.specs.Lists.{triggersOf, conditionsOf, refusedWith};
 
 // A name or other string: the range of its bytes in the rule text, inside the quotes.
 pub struct Name {
@@ -289,4 +291,40 @@ pub struct Answer {
     pub detail: u32,
     pub triggers: Triggers,
     pub conditions: Conditions,
+}
+
+pub fn no_triggers() -> Triggers
+    ensures { λ r. ⌜ r ≡ triggersOf [] ⌝ }
+{
+    Triggers {
+        rows: [TriggerRow {
+            trigger: Trigger::HttpTrigger,
+        }; 4],
+        count: 0,
+    }
+}
+
+pub fn no_conditions() -> Conditions
+    ensures { λ r. ⌜ r ≡ conditionsOf [] ⌝ }
+{
+    Conditions {
+        rows: [ConditionRow {
+            condition: Condition::ControllerActive,
+        }; 4],
+        count: 0,
+    }
+}
+
+// A refusal has empty lists.
+pub fn refused(number: u32, line: u32, column: u32, detail: u32) -> Answer
+    ensures { λ r. ⌜ r ≡ refusedWith number line column detail ⌝ }
+{
+    Answer {
+        number,
+        line,
+        column,
+        detail,
+        triggers: no_triggers(),
+        conditions: no_conditions(),
+    }
 }

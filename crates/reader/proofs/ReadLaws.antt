@@ -22,21 +22,16 @@ use Rattle.tokens.specs.Lex.{lexText, answerFrom, writtenFrom, answerBy, wordsB
 use Rattle.tokens.specs.declared.cursor.Refusal.{Refusal}
 use Rattle.tokens.specs.declared.lexer.Lexed.{Lexed}
 use Rattle.tokens.specs.declared.lexer.Lexed.the-variants.{Tokens, Refused}
-use Rattle.model.specs.Limits.{lastAdapter}
-use Rattle.sheet.specs.Sheet.{lines, well-formed, sheetCheck, lists}
-use Rattle.sheet.specs.Party.{owns}
-use Rattle.sheet.specs.Adapters.{has, packed}
+use Rattle.sheet.specs.Sheet.{sheetCheck}
+use Rattle.sheet.specs.Adapters.{has}
 use Rattle.sheet.specs.Survey.{surveyOf}
-use Rattle.sheet.specs.View.{View, seen, ownPrimary, viewOf, settingsOf}
+use Rattle.sheet.specs.View.{View, seen, ownPrimary, viewOf}
 use Rattle.sheet.specs.declared.Call.{Call}
 use Rattle.sheet.specs.declared.Settings.{Settings}
-use Rattle.sheet.specs.declared.adapters.Adapters.{Adapters}
 use Rattle.sheet.specs.declared.rows.Survey.{Survey}
 use Rattle.sheet.specs.declared.rows.Verdict.{Verdict}
 use Rattle.sheet.specs.declared.rows.Verdict.the-variants.{BadLine}
-use Rattle.sheet.proofs.AdapterLaws.{has-packed}
-use Rattle.sheet.proofs.SurveyLaws.{survey-bad, survey-well}
-use Rattle.sheet.proofs.ViewLaws.{seen-settings}
+use Rattle.sheet.proofs.CallLaws.{in-byte, sheet-bad, sheet-good, own-is, view-is}
 use Rattle.topics.specs.Topics.{lentTopics}
 use Rattle.topics.specs.Ranges.{lentWith}
 use Rattle.topics.proofs.RangeLaws.{lent-alone}
@@ -216,14 +211,7 @@ pub lexed-words : (text : List ℕ) (view : View) (lent : List (List ℕ)) (word
     buffer ≡ byText text view lent words true (checkOf text) .buffer
 lexed-words text view lent words q e = e ∙ words-same text view lent words (q .0) (q .1)
 
--- a refusal, and its place
-pub refused-made : (number line column detail : ℕ) {triggers : Triggers} {conditions : Conditions} → triggers ≡ triggersOf [] →
-    conditions ≡ conditionsOf [] →
-    record { number = number; line = line; column = column; detail = detail; triggers = triggers; conditions = conditions } ≡
-    refusedWith number line column detail
-unfolding refusedWith
-refused-made number line column detail x y = rw (x, y)
-
+-- a refusal's place
 module _ (words : List ℕ) (line column : ℕ) (refusal : Refusal) {count : ℕ} (counted : count ≡ capacity words) {a : Answer} where
   pub placed-in : {l c : ℕ} → refusal .token < count → l ≡ lineAt words (refusal .token) → c ≡ columnAt words (refusal .token) →
       a ≡ refusedWith (refusal .number) l c (refusal .detail) → a ≡ placed words line column refusal
@@ -275,10 +263,6 @@ unfolding byText byPrimary
 not-own-buffer text view lent words WellFormed = refl
 not-own-buffer text view lent words (IllFormed line column) = refl
 
--- a byte is an adapter
-in-byte : {n : ℕ} → Fits w8 n → n ≤ lastAdapter
-in-byte h = let f = h .fits in omega arith
-
 -- question 3's answer, taken apart: of a sheet that is well formed it says which adapters are the party's, and which are listed
 module _ (call : Call) (text sheet : List ℕ) (lent : List (List ℕ)) (words : List ℕ) {survey : Survey} (checked : survey ≡ surveyOf (call .party) sheet) where
   abbrev outcome : Outcome
@@ -287,7 +271,7 @@ module _ (call : Call) (text sheet : List ℕ) (lent : List (List ℕ)) (words :
   module _ {n : ℕ} (bad : survey .verdict ≡ BadLine n) where
     bad-same : record { answer = refusedWith 3 n 0 0; buffer = words } ≡ outcome
     unfolding bySheet
-    bad-same = rw (survey-bad (call .party) sheet (rw checked at bad))
+    bad-same = rw (sheet-bad call sheet checked bad)
 
     pub bad-answer : {a : Answer} → a ≡ refusedWith 3 n 0 0 → a ≡ outcome .answer
     bad-answer e = e ∙ ap (λ (o : Outcome). o .answer) bad-same
@@ -296,27 +280,16 @@ module _ (call : Call) (text sheet : List ℕ) (lent : List (List ℕ)) (words :
     bad-buffer = ap (λ (o : Outcome). o .buffer) bad-same
 
   module _ (good : survey .verdict ≡ Verdict.WellFormed) (byte : Fits w8 (call .primary)) {own : Bool} (has-own : own ≡ has (survey .said .own) (call .primary)) where
-    kept : (sheetCheck sheet ≡ well-formed) × (survey .said .own ≡ packed (owns (call .party) (lines sheet))) × (survey .said .listed ≡ packed (λ a. lists a (lines sheet)))
-    kept = rw checked (survey-well (call .party) sheet (rw checked at good))
-
-    own-is : own ≡ ownPrimary call sheet
-    unfolding ownPrimary
-    own-is = has-own ∙ ap (λ (set : Adapters). has set (call .primary)) (kept .1) ∙ has-packed _ _ (in-byte byte)
-
     outcome-is : byText text (seen call sheet) lent words own (checkOf text) ≡ outcome
     unfolding bySheet
-    outcome-is = rw (kept .0, own-is)
-
-    view-is : viewOf (record { primary = call .primary; habit = call .habit; own = survey .said .own; listed = survey .said .listed }) sheet ≡ seen call sheet
-    unfolding settingsOf seen
-    view-is = rw (kept .1, kept .2) (seen-settings call sheet)
+    outcome-is = rw (sheet-good call sheet checked good, own-is call sheet checked good byte has-own)
 
     abbrev own-outcome : Outcome
     own-outcome =
         byText text (viewOf (record { primary = call .primary; habit = call .habit; own = survey .said .own; listed = survey .said .listed }) sheet) lent words true (checkOf text)
 
     own-same : own ≡ true → own-outcome ≡ outcome
-    own-same h = rw view-is (rw h at outcome-is)
+    own-same h = rw (view-is call sheet checked good) (rw h at outcome-is)
 
     pub own-answer : {a : Answer} → own ≡ true → a ≡ own-outcome .answer → a ≡ outcome .answer
     own-answer h e = e ∙ ap (λ (o : Outcome). o .answer) (own-same h)

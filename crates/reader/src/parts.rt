@@ -4,7 +4,6 @@ use model::Condition;
 use model::ConditionRow;
 use model::Conditions;
 use model::Trigger;
-use model::TriggerRow;
 use model::Triggers;
 use tokens::cursor::Cursor;
 use tokens::cursor::Refusal;
@@ -39,28 +38,6 @@ pub struct Rule {
     pub conditions: Conditions,
 }
 
-pub fn no_triggers() -> Triggers
-    ensures { λ r. ⌜ r ≡ triggersOf [] ⌝ }
-{
-    Triggers {
-        rows: [TriggerRow {
-            trigger: Trigger::HttpTrigger,
-        }; 4],
-        count: 0,
-    }
-}
-
-pub fn no_conditions() -> Conditions
-    ensures { λ r. ⌜ r ≡ conditionsOf [] ⌝ }
-{
-    Conditions {
-        rows: [ConditionRow {
-            condition: Condition::ControllerActive,
-        }; 4],
-        count: 0,
-    }
-}
-
 // The list with one more condition. A full one stays as it is.
 pub fn with_condition(list: Conditions, y: Condition) -> Conditions
     ensures { λ r. ⌜ r ≡ withCondition list y ⌝ }
@@ -79,5 +56,5 @@ pub fn with_condition(list: Conditions, y: Condition) -> Conditions
 pub fn one_condition(y: Condition) -> Conditions
     ensures { λ r. ⌜ r ≡ conditionsOf (y ∷ []) ⌝ }
 {
-    with_condition(no_conditions(), y)
+    with_condition(model::no_conditions(), y)
 }

@@ -1,5 +1,4 @@
 // The call that outsiders make: a rule text and a name sheet in, both lists or one numbered refusal out.
-use crate::parts;
 use crate::parts::Rule;
 use crate::section;
 use model::Answer;
@@ -30,34 +29,20 @@ ghost use Rattle.language.specs.Read.{ruleIn, onAccepted, ruleOf, byText, byShe
 ghost use Rattle.language.specs.Demand.{Exact};
 ghost use Rattle.reader.specs.Parts.{withHabit, toRule, placed, answered, notOwn};
 
-// A refusal has empty lists.
-fn refused(number: u32, line: u32, column: u32, detail: u32) -> Answer
-    ensures { λ r. ⌜ r ≡ refusedWith number line column detail ⌝ }
-{
-    Answer {
-        number,
-        line,
-        column,
-        detail,
-        triggers: parts::no_triggers(),
-        conditions: parts::no_conditions(),
-    }
-}
-
 // The place of a refusal is that of its token, or the end's.
 fn placed_at(words: &[u32], line: u32, column: u32, refusal: Refusal) -> Answer
     ensures { λ r. ⌜ r ≡ placed (now (words .entry)) line column refusal ⌝ }
 {
     let i = refusal.token;
     if i < tokens::record::count(words) {
-        return refused(
+        return model::refused(
             refusal.number,
             tokens::record::line(words, i),
             tokens::record::column(words, i),
             refusal.detail,
         );
     }
-    refused(refusal.number, line, column, refusal.detail)
+    model::refused(refusal.number, line, column, refusal.detail)
 }
 
 // The same settings in a call of another habit.
@@ -180,7 +165,7 @@ fn read_text(
             number,
             line,
             column,
-        } => refused(number, line, column, 0),
+        } => model::refused(number, line, column, 0),
         Lexed::Tokens {
             count,
             line,
@@ -205,8 +190,8 @@ fn not_own(text: &[u8]) -> Answer
 {
     let well = place::check_utf8(text);
     match well {
-        Checked::IllFormed { line, column } => refused(4, line, column, 0),
-        Checked::WellFormed => refused(53, 0, 0, 0),
+        Checked::IllFormed { line, column } => model::refused(4, line, column, 0),
+        Checked::WellFormed => model::refused(53, 0, 0, 0),
     }
 }
 
@@ -231,7 +216,7 @@ fn read_sheet(
     let listed = said.listed;
     let verdict = survey.verdict;
     match verdict {
-        Verdict::BadLine(n) => refused(3, n, 0, 0),
+        Verdict::BadLine(n) => model::refused(3, n, 0, 0),
         Verdict::WellFormed => {
             if adapters::has(own, primary) {
                 return read_text(
@@ -269,10 +254,10 @@ pub fn read_after(
     ensures reading { λ r. ⌜ Exact call (now (text .entry)) (now (sheet .entry)) (lentWith (now (lent .entry)) (now (first .entry)) (now (earlier .entry))) (length (now (words .entry))) r ⌝ }
 {
     if tokens::lexer::MOST_BYTES < text.len() {
-        return refused(1, 0, 0, 0);
+        return model::refused(1, 0, 0, 0);
     }
     if words.len() < tokens::lexer::LEAST_WORDS {
-        return refused(2, 0, 0, 0);
+        return model::refused(2, 0, 0, 0);
     }
     read_sheet(call, text, sheet, lent, first, earlier, words)
 }

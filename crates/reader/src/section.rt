@@ -45,7 +45,7 @@ fn whens_refused(refusal: Refusal) -> Whens
         accepted: false,
         refusal,
         next: Cursor::new(),
-        list: parts::no_triggers(),
+        list: model::no_triggers(),
     }
 }
 
@@ -136,7 +136,7 @@ fn whens(
 ) -> Whens
     ensures { λ r. ⌜ r ≡ toWhens (repeated (tokens (now (text .entry)) (now (words .entry))) (ascii "when") 37 (triggerNamed (tokens (now (text .entry)) (now (words .entry))) (viewOf settings (now (s .entry))) (rangeOf (now (words .entry))) (topicsWith (now (text .entry)) (lentWith (now (lent .entry)) (now (first .entry)) (now (earlier .entry)))) (capacity (now (words .entry)))) (λ named x. named ++ topicOf (nameIn (now (text .entry))) x) [] 4 (c .index)) ⌝ }
 {
-    let mut list = parts::no_triggers();
+    let mut list = model::no_triggers();
     let mut named = ranges::no_ranges();
     let mut p = c;
     loop {
@@ -205,7 +205,7 @@ fn ifs_refused(refusal: Refusal) -> Ifs
         accepted: false,
         refusal,
         next: Cursor::new(),
-        list: parts::no_conditions(),
+        list: model::no_conditions(),
     }
 }
 
@@ -267,7 +267,7 @@ pub fn if_section(c: Cursor, text: &[u8], words: &[u32], s: &[u8], settings: Set
 {
     let word = c.accept_kw(text, words, b"if");
     match word {
-        Accepted::Left => ifs_done(parts::no_conditions(), c),
+        Accepted::Left => ifs_done(model::no_conditions(), c),
         Accepted::Yes(next) => {
             let one = condition::condition_at(next, text, words, s, settings);
             match one {
@@ -284,8 +284,8 @@ fn rule_refused(refusal: Refusal) -> Rule
     Rule {
         accepted: false,
         refusal,
-        triggers: parts::no_triggers(),
-        conditions: parts::no_conditions(),
+        triggers: model::no_triggers(),
+        conditions: model::no_conditions(),
     }
 }
 

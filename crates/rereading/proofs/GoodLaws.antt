@@ -90,7 +90,7 @@ without : (b : ℕ) (s : List ℕ) → ((i : ℕ) → i < length s → getD s i 
 without b [] h = Without.none
 without b (c ∷ s) h = Without.more (h 0 (omega arith)) (without b s (λ i l. h (suc i) (omega arith)))
 
-has-none : (b : ℕ) (s : List ℕ) → hasByte b s ≡ false → Without b s
+pub has-none : (b : ℕ) (s : List ℕ) → hasByte b s ≡ false → Without b s
 unfolding hasByte
 has-none b s h =
     let k : firstAt b s 0 ≡ length s = omega (arith, ltb-false (firstAt b s 0) (length s) h, first-within b s 0) in
@@ -151,7 +151,7 @@ isGood (Piece.time m) = possibleTime m
 isGood (Piece.duration ms) = leb ms mostMs
 isGood (Piece.sign kind) = isSign kind
 
-abbrev areGood : List Piece → Bool
+abbrev pub areGood : List Piece → Bool
 areGood [] = true
 areGood (p ∷ ps) = pick (isGood p) (areGood ps) false
 
@@ -164,7 +164,7 @@ good (Piece.time m) h = Good.time (ltb-true m dayMinutes h)
 good (Piece.duration ms) h = Good.duration (leb-true ms mostMs h)
 good (Piece.sign kind) h = good-sign kind h
 
-each-good : (ps : List Piece) → areGood ps ≡ true → Each Good ps
+pub each-good : (ps : List Piece) → areGood ps ≡ true → Each Good ps
 each-good [] h = Each.none
 each-good (p ∷ ps) h =
     let k = both (isGood p) h in
@@ -174,7 +174,7 @@ both-order : (t u v : Bool) → pick t (pick u v false) false ≡ pick (pick t u
 both-order true u v = refl
 both-order false u v = refl
 
-good-append : (ps qs : List Piece) → areGood (ps ++ qs) ≡ pick (areGood ps) (areGood qs) false
+pub good-append : (ps qs : List Piece) → areGood (ps ++ qs) ≡ pick (areGood ps) (areGood qs) false
 good-append [] qs = refl
 good-append (p ∷ ps) qs = rw (good-append ps qs) (both-order (isGood p) (areGood ps) (areGood qs))
 

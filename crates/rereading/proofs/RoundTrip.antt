@@ -60,7 +60,7 @@ unfolding octetsIn
 bytes-some (begins {c} h k) o = omega (arith, octets-some c, octets-long o)
 
 -- each has a byte at least, and a space stands between two
-tokens-few : {ps : List Piece} → Each Good ps → length ps + length ps ≤ length (spaced ps) + 1
+pub tokens-few : {ps : List Piece} → Each Good ps → length ps + length ps ≤ length (spaced ps) + 1
 unfolding spaced
 tokens-few Each.none = omega arith
 tokens-few (Each.more h Each.none) = let t = piece-token h in omega (arith, bytes-some (t .starts) (t .octets))

@@ -60,7 +60,7 @@ in-three front a b = rw (a .is, b .is, append-assoc)
 
 -- ---- an ASCII character that is none of the characters is none of their bytes
 
-without-both : {c : ℕ} {u v : List ℕ} → Without c u → Without c v → Without c (u ++ v)
+pub without-both : {c : ℕ} {u v : List ℕ} → Without c u → Without c v → Without c (u ++ v)
 without-both Without.none w = w
 without-both (Without.more h k) w = Without.more h (without-both k w)
 

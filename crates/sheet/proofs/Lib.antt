@@ -11,4 +11,5 @@ pub mod ViewLaws
 pub mod PartyLaws
 pub mod RangeLaws
 pub mod SurveyLaws
-mod NamesLaws
+pub mod NamesLaws
+pub mod CallLaws

@@ -38,7 +38,8 @@ names-entry own of written es (Adapter a) = refl
 names-entry own of written es (Party a party) = refl
 names-entry own of written es Bad = refl
 
-names-line : (own : ℕ → Bool) (of : Numbered) (l : List ℕ) (ls : List (List ℕ)) →
+-- the names of a sheet whose first line is l
+pub names-line : (own : ℕ → Bool) (of : Numbered) (l : List ℕ) (ls : List (List ℕ)) →
     namesFor of (entriesOn own (entries (l ∷ ls)))
     ≡ pick (isForLine own of (lineOf l)) (nameOf l ∷ namesFor of (entriesOn own (entries ls))) (namesFor of (entriesOn own (entries ls)))
 unfolding entries

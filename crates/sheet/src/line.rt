@@ -41,14 +41,14 @@ pub fn without_return(l: &[u8]) -> &[u8]
 }
 
 // The index of the first comma; the length where there is none.
-fn comma(l: &[u8]) -> usize
+pub fn comma(l: &[u8]) -> usize
     ensures { λ r. ⌜ r ≡ indexOf 0x2C (now (l .entry)) ⌝ }
 {
     text::find::find(l, 0, b',')
 }
 
 // What stands behind the first comma.
-fn behind_comma(l: &[u8]) -> &[u8]
+pub fn behind_comma(l: &[u8]) -> &[u8]
     ensures { λ r. ⌜ now r ≡ rest (now (l .entry)) ⌝ }
 {
     let at = comma(l);
@@ -59,7 +59,7 @@ fn behind_comma(l: &[u8]) -> &[u8]
 }
 
 // The number that digits write, up to 999 and with no leading zero; 1000 where the bytes are none.
-fn decimal(l: &[u8]) -> u32
+pub fn decimal(l: &[u8]) -> u32
     ensures { λ r. ⌜ r ≡ numeral (now (l .entry)) ⌝ }
 {
     if l.len() == 0 {
@@ -111,7 +111,7 @@ fn digit(c: u32) -> u32
 }
 
 // A name that a sheet may have: 1 to 48 bytes, without quote or CR.
-fn is_name(l: &[u8]) -> bool
+pub fn is_name(l: &[u8]) -> bool
     ensures { λ r. ⌜ r ≡ isName (now (l .entry)) ⌝ }
 {
     if l.len() == 0 {

@@ -43,7 +43,7 @@ fn is_for(of: Numbered, kind: u32, adapter: u32, number: u32) -> bool
 }
 
 // Is the line a row for it that the call sees?
-fn is_for_line(own: Adapters, of: Numbered, l: &[u8]) -> bool
+pub fn is_for_line(own: Adapters, of: Numbered, l: &[u8]) -> bool
     ensures { λ r. ⌜ r ≡ isForLine (has own) of (lineOf (now (l .entry))) ⌝ }
 {
     let said = line::line_of(l);
@@ -89,7 +89,8 @@ pub fn name_at(s: &[u8], settings: Settings, of: Numbered, k: u32) -> &[u8]
     &s[..0]
 }
 
-fn is_found(of: Numbered, found: Found) -> bool
+// Was just it found?
+pub fn is_found(of: Numbered, found: Found) -> bool
     ensures { λ r. ⌜ r ≡ isFound of found ⌝ }
 {
     match found {

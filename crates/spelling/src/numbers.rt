@@ -15,7 +15,7 @@ fn digit(n: u64) -> u8
 }
 
 // The last ten digits of a number, without leading zeros.
-fn put_decimal(out: &mut [u8], at: usize, n: u64) -> usize
+pub fn put_decimal(out: &mut [u8], at: usize, n: u64) -> usize
     requires { ⌜ Fits (now out) at (decimal n) ⌝ }
     ensures { λ end. ⌜ Put (now (out .entry)) at (decimal n) (now (out .exit)) end ⌝ }
 {

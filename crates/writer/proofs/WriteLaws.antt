@@ -8,39 +8,23 @@ use lib.ListN.{length}
 use borrow.Author.Tests.{lt-ltb, le-ltb, eq-eqb, ne-eqb}
 use mir.Syntax.{w8, w32}
 use mir.Val
-use Rattle.model.specs.Limits.{lastAdapter}
-use Rattle.sheet.specs.Sheet.{lines, well-formed, sheetCheck, lists}
-use Rattle.sheet.specs.Party.{owns}
-use Rattle.sheet.specs.Adapters.{has, packed}
+use Rattle.sheet.specs.Adapters.{has}
 use Rattle.sheet.specs.Survey.{surveyOf}
-use Rattle.sheet.specs.View.{View, seen, ownPrimary, viewOf, settingsOf}
+use Rattle.sheet.specs.View.{View, seen, viewOf}
 use Rattle.sheet.specs.declared.Habit.{Habit}
 use Rattle.sheet.specs.declared.Settings.{Settings}
-use Rattle.sheet.specs.declared.adapters.Adapters.{Adapters}
 use Rattle.sheet.specs.declared.rows.Survey.{Survey}
 use Rattle.sheet.specs.declared.rows.Verdict.{Verdict}
-use Rattle.sheet.proofs.AdapterLaws.{has-packed}
-use Rattle.sheet.proofs.SurveyLaws.{survey-bad, survey-well}
-use Rattle.sheet.proofs.ViewLaws.{seen-settings}
+use Rattle.sheet.proofs.CallLaws.{sheet-bad, sheet-good, own-is, view-is}
 use Rattle.language.specs.Read.{ruleCall}
 use Rattle.writing.specs.Pieces.{spaced}
 use Rattle.writing.specs.Writing.{leastBytes, possibleCounts, firstImpossible, listPieces, firstUnreached, Outcome, refusedAt, writtenWith, byReached, byPossible, byRoom, bySheet, writeOf}
 use Rattle.writing.specs.declared.Lists.{Lists}
 use Rattle.writing.specs.declared.Written.{Written}
 use Rattle.writing.proofs.LengthLaws.{text-fits}
+use Rattle.writing.proofs.OutcomeLaws.{handed-on}
 use Rattle.spelling.specs.Put.{Put, Fits}
 use Rattle.spelling.proofs.PutLaws.{put-whole}
-
--- an answer with its buffer, handed on
-pub handed-on : {a : Written} {after : List ℕ} {o whole : Outcome} → o ≡ whole → (a ≡ o .answer) × (after ≡ o .buffer) →
-    (a ≡ whole .answer) × (after ≡ whole .buffer)
-handed-on e h = (h .0 ∙ ap (λ (o : Outcome). o .answer) e, h .1 ∙ ap (λ (o : Outcome). o .buffer) e)
-
--- "Bytes past the text, and all on refusal, stay."
-pub refused-by : (number line : ℕ) {b : List ℕ} {whole : Outcome} {a : Written} → refusedAt number line b ≡ whole →
-    a ≡ refusedAt number line [] .answer → (a ≡ whole .answer) × (b ≡ whole .buffer)
-unfolding refusedAt
-refused-by number line e h = (h ∙ ap (λ (o : Outcome). o .answer) e, ap (λ (o : Outcome). o .buffer) e)
 
 -- there is room for the text of a possible list, and its length is a word
 module _ (first second : List ℕ) (l : Lists) (b : List ℕ)
@@ -94,10 +78,6 @@ module _ (view : View) (first second : List ℕ) (l : Lists) (b : List ℕ) wher
       unfolding byRoom byPossible
       all-possible h = rw (le-ltb (length b) leastBytes room, ← counted, few, ← impossible, eq-eqb n 0 h)
 
--- a byte is an adapter
-in-byte : {n : ℕ} → mir.Val.Fits w8 n → n ≤ lastAdapter
-in-byte h = let f = h .fits in omega arith
-
 -- the sheet and 53
 module _ (party primary : ℕ) (first second sheet : List ℕ) (l : Lists) (b : List ℕ) {survey : Survey} (checked : survey ≡ surveyOf party sheet) where
   abbrev settings : Settings
@@ -105,30 +85,19 @@ module _ (party primary : ℕ) (first second sheet : List ℕ) (l : Lists) (b : 
 
   pub bad-sheet : {n : ℕ} → survey .verdict ≡ Verdict.BadLine n → refusedAt 3 n b ≡ writeOf party primary first second sheet l b
   unfolding writeOf bySheet
-  bad-sheet bad = rw (survey-bad party sheet (rw checked at bad))
+  bad-sheet bad = rw (sheet-bad (ruleCall party primary) sheet checked bad)
 
   module _ (good : survey .verdict ≡ Verdict.WellFormed) (byte : mir.Val.Fits w8 primary) {own : Bool}
       (has-own : own ≡ has (survey .said .own) primary) where
-    kept : (sheetCheck sheet ≡ well-formed)
-        × (survey .said .own ≡ packed (owns party (lines sheet)))
-        × (survey .said .listed ≡ packed (λ a. lists a (lines sheet)))
-    kept = rw checked (survey-well party sheet (rw checked at good))
-
-    own-is : own ≡ ownPrimary (ruleCall party primary) sheet
-    unfolding ownPrimary
-    own-is = has-own ∙ ap (λ (set : Adapters). has set primary) (kept .1) ∙ has-packed _ _ (in-byte byte)
-
     outcome-is : byRoom (seen (ruleCall party primary) sheet) first second l b own ≡ writeOf party primary first second sheet l b
     unfolding writeOf bySheet
-    outcome-is = rw (kept .0, ← own-is)
+    outcome-is =
+        let call = ruleCall party primary in
+        rw (sheet-good call sheet checked good, ← own-is call sheet checked good byte has-own)
 
     pub not-own : own ≡ false → refusedAt 53 0 b ≡ writeOf party primary first second sheet l b
     unfolding byRoom
     not-own h = rw h at outcome-is
 
-    view-is : viewOf settings sheet ≡ seen (ruleCall party primary) sheet
-    unfolding settingsOf seen
-    view-is = rw (kept .1, kept .2) (seen-settings (ruleCall party primary) sheet)
-
     pub is-own : own ≡ true → byRoom (viewOf settings sheet) first second l b true ≡ writeOf party primary first second sheet l b
-    is-own h = rw view-is (rw h at outcome-is)
+    is-own h = rw (view-is (ruleCall party primary) sheet checked good) (rw h at outcome-is)

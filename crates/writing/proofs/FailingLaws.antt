@@ -13,7 +13,7 @@ use Rattle.writing.specs.declared.TriggerFrom.{TriggerFrom}
 use Rattle.writing.specs.declared.ConditionFrom.{ConditionFrom}
 use Rattle.writing.specs.declared.Lists.{Lists}
 
-all-pass : {A : Type 0} (test : A → Bool) (k : ℕ) (xs : List A) → failing test (k + 1) xs ≡ 0 → Each (λ (x : A). test x ≡ true) xs
+pub all-pass : {A : Type 0} (test : A → Bool) (k : ℕ) (xs : List A) → failing test (k + 1) xs ≡ 0 → Each (λ (x : A). test x ≡ true) xs
 unfolding failing
 all-pass test k [] = λ h. Each.none
 all-pass {A} test k (x ∷ xs) =

@@ -84,7 +84,7 @@ most (Piece.time m) = 5
 most (Piece.duration ms) = 15
 most (Piece.sign kind) = length (spelledSign kind)
 
-abbrev room : List Piece → ℕ
+abbrev pub room : List Piece → ℕ
 room [] = 0
 room (p ∷ ps) = suc (most p + room ps)
 
@@ -102,7 +102,7 @@ unfolding further
 further-room [] = omega arith
 further-room (p ∷ ps) = simp length-append (omega (arith, spelled-most p, further-room ps))
 
-room-append : (ps qs : List Piece) → room (ps ++ qs) ≡ room ps + room qs
+pub room-append : (ps qs : List Piece) → room (ps ++ qs) ≡ room ps + room qs
 room-append [] qs = omega arith
 room-append (p ∷ ps) qs = omega (arith, room-append ps qs)
 
@@ -304,7 +304,7 @@ unfolding ifPieces
 if-room pieces limit f Each.none = omega arith
 if-room pieces limit f (Each.more {x} h e) = simp room-append (omega (arith, f x h, behind-room pieces (ascii "and") limit f e))
 
-spaced-room : (ps : List Piece) → length (spaced ps) ≤ room ps
+pub spaced-room : (ps : List Piece) → length (spaced ps) ≤ room ps
 unfolding spaced
 spaced-room [] = omega arith
 spaced-room (p ∷ ps) = rw (spaced-further, length-append) (omega (arith, spelled-most p, further-room ps))

@@ -1,5 +1,6 @@
 use borrow.Author.Needs.{needs}
-use Rattle.writer.proofs.WriteLaws.{handed-on, refused-by, bad-sheet, not-own, is-own}
+use Rattle.writing.proofs.OutcomeLaws.{handed-on, refused-by}
+use Rattle.writer.proofs.WriteLaws.{bad-sheet, not-own, is-own}
 use Rattle.writer.proofs.write.Statement.{statement}
 use Rattle.writer.proofs.write.Tie as tie
 

@@ -1,6 +1,7 @@
 use mathlib.Core.Path.{sym, _∙_}
 use borrow.Author.Needs.{needs}
-use Rattle.writer.proofs.WriteLaws.{handed-on, refused-by, too-small, miscounted, not-possible, all-possible}
+use Rattle.writing.proofs.OutcomeLaws.{handed-on, refused-by}
+use Rattle.writer.proofs.WriteLaws.{too-small, miscounted, not-possible, all-possible}
 use Rattle.writer.proofs.write_lists.Statement.{statement}
 use Rattle.writer.proofs.write_lists.Tie as tie
 

@@ -1,5 +1,6 @@
 use borrow.Author.Needs.{needs}
-use Rattle.writer.proofs.WriteLaws.{refused-by, rule-fits, length-in-word, unnamed, written}
+use Rattle.writing.proofs.OutcomeLaws.{refused-by}
+use Rattle.writer.proofs.WriteLaws.{rule-fits, length-in-word, unnamed, written}
 use Rattle.writer.proofs.write_possible.Statement.{statement}
 use Rattle.writer.proofs.write_possible.Tie as tie
 

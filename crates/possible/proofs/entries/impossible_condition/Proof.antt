@@ -2,7 +2,7 @@ use Prim.Native.Nat.{_+_, _-_, _≤_}
 use borrow.Author.Needs.{needs}
 use Rattle.language.specs.Limits.{mostTriggers}
 use Rattle.writing.specs.Writing.{possibleConditionFrom}
-use Rattle.possible.proofs.ListLaws.{Passed, passes}
+use Rattle.writing.proofs.PassedLaws.{Passed, passes}
 use Rattle.possible.proofs.entries.impossible_condition.Statement.{statement}
 use Rattle.possible.proofs.entries.impossible_condition.Tie as tie
 

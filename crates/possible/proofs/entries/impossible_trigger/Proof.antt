@@ -1,7 +1,7 @@
 use Prim.Native.Nat.{_-_}
 use borrow.Author.Needs.{needs}
 use Rattle.writing.specs.Writing.{possibleTriggerFrom}
-use Rattle.possible.proofs.ListLaws.{Passed, passes}
+use Rattle.writing.proofs.PassedLaws.{Passed, passes}
 use Rattle.possible.proofs.entries.impossible_trigger.Statement.{statement}
 use Rattle.possible.proofs.entries.impossible_trigger.Tie as tie
 

@@ -4,7 +4,7 @@ use Rattle.sheet.specs.View.{viewOf}
 use Rattle.language.specs.Limits.{mostTriggers}
 use Rattle.writing.specs.Reached.{reachedCondition}
 use Rattle.writing.specs.declared.ConditionFrom.{ConditionFrom}
-use Rattle.possible.proofs.ListLaws.{Passed, passes}
+use Rattle.writing.proofs.PassedLaws.{Passed, passes}
 use Rattle.possible.proofs.entries.unreached_condition.Statement.{statement}
 use Rattle.possible.proofs.entries.unreached_condition.Tie as tie
 

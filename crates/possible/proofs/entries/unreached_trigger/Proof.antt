@@ -3,7 +3,7 @@ use borrow.Author.Needs.{needs}
 use Rattle.sheet.specs.View.{viewOf}
 use Rattle.writing.specs.Reached.{reachedTrigger}
 use Rattle.writing.specs.declared.TriggerFrom.{TriggerFrom}
-use Rattle.possible.proofs.ListLaws.{Passed, passes}
+use Rattle.writing.proofs.PassedLaws.{Passed, passes}
 use Rattle.possible.proofs.entries.unreached_trigger.Statement.{statement}
 use Rattle.possible.proofs.entries.unreached_trigger.Tie as tie
 

@@ -3,7 +3,7 @@ use borrow.Author.Needs.{needs}
 use Rattle.text.specs.Literal.{ascii}
 use Rattle.writing.specs.Writing.{conditionFromPieces}
 use Rattle.spelling.proofs.PutLaws.{put-length}
-use Rattle.possible.proofs.ListLaws.{array-length}
+use Rattle.writing.proofs.PassedLaws.{array-length}
 use Rattle.writer.proofs.RuleLaws.{Going, none-written, all-written, entry-fits, entry-in}
 use Rattle.writer.proofs.rule.more_conditions.Statement.{statement}
 use Rattle.writer.proofs.rule.more_conditions.Tie as tie

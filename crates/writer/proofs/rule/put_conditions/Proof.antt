@@ -1,6 +1,6 @@
 use borrow.Author.Needs.{needs}
 use Rattle.model.specs.declared.Condition.{Condition}
-use Rattle.possible.proofs.ListLaws.{array-length}
+use Rattle.writing.proofs.PassedLaws.{array-length}
 use Rattle.spelling.proofs.PutLaws.{put-none, fits-1, fits-2, fits-3, put-3}
 use Rattle.writer.proofs.RuleLaws.{no-conditions, conditions-made}
 use Rattle.writer.proofs.rule.put_conditions.Statement.{statement}

@@ -1,5 +1,6 @@
 use borrow.Author.Needs.{needs}
-use Rattle.possible.proofs.ListLaws.{array-length, few-triggers, few-conditions}
+use Rattle.writing.proofs.PassedLaws.{array-length}
+use Rattle.possible.proofs.ListLaws.{few-triggers, few-conditions}
 use Rattle.spelling.proofs.PutLaws.{fits-1, fits-2, put-2}
 use Rattle.writer.proofs.RuleLaws.{some-triggers, rule-made}
 use Rattle.writer.proofs.rule.put_rule.Statement.{statement}

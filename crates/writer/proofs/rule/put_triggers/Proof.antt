@@ -1,6 +1,6 @@
 use borrow.Author.Needs.{needs}
 use Rattle.model.specs.declared.Trigger.{Trigger}
-use Rattle.possible.proofs.ListLaws.{array-length}
+use Rattle.writing.proofs.PassedLaws.{array-length}
 use Rattle.spelling.proofs.PutLaws.{fits-1, fits-2, fits-3, put-3}
 use Rattle.writer.proofs.RuleLaws.{triggers-made}
 use Rattle.writer.proofs.rule.put_triggers.Statement.{statement}

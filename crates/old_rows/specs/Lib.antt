@@ -1,0 +1,4 @@
+pub mod Row
+pub mod Convert
+pub mod Back
+pub mod Made

@@ -1,0 +1,13 @@
+pub mod IsolationLaws
+pub mod FittingLaws
+pub mod ToldLaws
+pub mod FieldLaws
+pub mod DecimalLaws
+pub mod RowReads
+pub mod RowsConvert
+pub mod RoundTrip
+pub mod OneRow
+pub mod NamedReads
+pub mod RowPieces
+pub mod RuleFound
+pub mod RowAsRule
