@@ -117,9 +117,16 @@ enum tergyosul_origin {
 #define TERGYOSUL_LEAST_BYTES 4096
 
 /*
+ * The least length of the bytes that are lent to tergyosul_rows_back for the rows, and the most that it writes. With fewer
+ * than the least the answer is refusal 54. Its answer is as long as one of tergyosul_write, and laid out like it.
+ */
+#define TERGYOSUL_ROWS_LEAST_BYTES 512
+#define TERGYOSUL_ROWS_MOST_BYTES 272
+
+/*
  * The result of a call whose answer is too short: shorter than TERGYOSUL_ANSWER_WORDS, of tergyosul_lex than
- * TERGYOSUL_LEX_WORDS, of tergyosul_write than TERGYOSUL_WRITE_WORDS, of tergyosul_next_chain than
- * TERGYOSUL_CHAIN_WORDS. If answer is too short, nothing is read and nothing is written. No refusal has this number.
+ * TERGYOSUL_LEX_WORDS, of tergyosul_write and tergyosul_rows_back than TERGYOSUL_WRITE_WORDS, of tergyosul_next_chain
+ * than TERGYOSUL_CHAIN_WORDS. If answer is too short, nothing is read and nothing is written. No refusal has this number.
  */
 #define TERGYOSUL_NO_ROOM 4294967295u
 
@@ -330,8 +337,8 @@ uint32_t tergyosul_join(const uint8_t *first, size_t first_length,
                         uint32_t *answer, size_t answer_length);
 
 /*
- * Writes the two lists of a rule out as a text. lists are the words of an accepted answer of tergyosul_read or
- * tergyosul_join, or words laid out like these: the counts and the texts of the entries in row 0, and the rows of entries.
+ * Writes the two lists of a rule out as a text. lists are the words of an accepted answer of tergyosul_read, tergyosul_join
+ * or tergyosul_rows, or words laid out like these: the counts and the texts of the entries in row 0, and the rows of entries.
  * The names of an entry stand in first or in second, as row 0 says by TERGYOSUL_FIRST and TERGYOSUL_SECOND; 0 counts as
  * TERGYOSUL_FIRST, so that for an answer of tergyosul_read first is the text that was read, and second may have the length
  * 0. Rows past a count, and the other words of row 0, are not looked at; a word past the end of lists counts as 0.
@@ -364,6 +371,65 @@ uint32_t tergyosul_write(const uint8_t *first, size_t first_length,
                          const uint32_t *lists, size_t lists_length,
                          uint8_t *out, size_t out_length,
                          uint32_t *answer, size_t answer_length);
+
+/*
+ * Converts rows of the previous owners' archives to triggers, with a name sheet, for a party. A row is `K,name,A,word`:
+ *
+ *   lamp,Till,1,on          K and its words: lamp (on, off), group (any_on, all_off), device (offline, online)
+ *   group,Hall,,all_off     A is an adapter, 0 to 255 without leading zeros, or empty where none is named
+ *
+ * A name has 1 to 48 bytes of any kind, but no quote, comma, CR or LF. Every row ends with LF, the last one, too. A row
+ * gives one trigger, in the rows' order, for what has that name on A, or on any of the party's adapters where A is empty:
+ * what `lamp("Till", adapter=1)` and `lamp("Till")` refer to in a rule. primary plays no part but in 53.
+ *
+ * The result is 0, or the number of the refusal, or TERGYOSUL_NO_ROOM. The whole answer goes to answer, laid out as one of
+ * tergyosul_read, with one to four triggers and no conditions. The column of a refusal is 0; it is the first of
+ *
+ *   3        the sheet is not well formed; the line is its first bad one
+ *   53       primary is not the party's, at 0:0
+ *   60       there is no row, at 0:0; else a malformed row, or a fifth one, before any name is looked up
+ *   25       A is named and is not listed for the party
+ *   31       no row of that kind in the sheet has the name
+ *   32       none on A has it; the detail is the adapter of the first one elsewhere
+ *   33, 34   several have it, on one adapter or on several; the detail is their count
+ *
+ * For 60 the line is the first such row, from 1. For 25 and 31 to 34 it is the first row that any of them is about.
+ */
+uint32_t tergyosul_rows(const uint8_t *rows, size_t rows_length,
+                        const uint8_t *sheet, size_t sheet_length,
+                        uint8_t party, uint8_t primary,
+                        uint32_t *answer, size_t answer_length);
+
+/*
+ * Converts a list of triggers back to such rows. lists are the words of an accepted answer of tergyosul_read, tergyosul_join
+ * or tergyosul_rows, or words laid out like these. Each trigger is one that a row says: a lamp turns on or off, a group
+ * becomes any_on or all_off, a device goes offline or comes online; and there are no conditions. The texts of the entries,
+ * and rows past the count, are not looked at; a word past the end of lists counts as 0.
+ *
+ * The name and A of a row are those of the first sheet row for that lamp, group or device which is the only one of its kind
+ * and name on its adapter, has no comma in its name and is on an adapter that is listed for the party. A is always
+ * written, also where it is primary. What tergyosul_rows gives of the rows, with the same sheet, party and primary, is the
+ * same list.
+ *
+ * The result is 0, or the number of the refusal, or TERGYOSUL_NO_ROOM. The rows go to the front of out, each with LF at its
+ * end, and their length to answer, 0 with a refusal; the other bytes of out, all of them with a refusal, are left as they
+ * are, and so are the words of answer behind the first TERGYOSUL_WRITE_WORDS. No rows are longer than
+ * TERGYOSUL_ROWS_MOST_BYTES. The column and the detail of a refusal are 0; it is the first of
+ *
+ *   3    the sheet is not well formed; the line is its first bad one
+ *   53   primary is not the party's, at 0:0
+ *   54   out is shorter than TERGYOSUL_ROWS_LEAST_BYTES, at 0:0
+ *   61   there are no triggers, or more than four, at 0:0; else a trigger that no row says, or words that are no trigger's;
+ *        else, where the count of conditions is not 0, the first condition, whatever its words are
+ *   62   a lamp, group or device for which the sheet has no row as above
+ *
+ * For 61 and 62 the line is the ordinal of the first such entry, from 1, a condition's behind the triggers.
+ */
+uint32_t tergyosul_rows_back(const uint8_t *sheet, size_t sheet_length,
+                             uint8_t party, uint8_t primary,
+                             const uint32_t *lists, size_t lists_length,
+                             uint8_t *out, size_t out_length,
+                             uint32_t *answer, size_t answer_length);
 
 /*
  * The sheet's own primary adapter, which its first line names: 0 to 255, and 0 where it names none. A call that is to go

@@ -1,12 +1,15 @@
 /*
- * Reads a rule with its name sheet and says what it has, or writes it out again, or joins two rules.
+ * Reads a rule with its name sheet and says what it has, or writes it out again, or joins two rules; or converts rows of the
+ * previous owners.
  *
- *   example [--shop | --write] RULE SHEET [TOPICS] [PARTY PRIMARY]
+ *   example [--shop | --write | --to-rows] RULE SHEET [TOPICS] [PARTY PRIMARY]
  *   example --join RULE RULE SHEET [TOPICS] [PARTY PRIMARY]
+ *   example --rows ROWS SHEET [PARTY PRIMARY]
  *
  * under the shop profile, or else as any rule, with the topics of earlier rules, one a line, or else with none, and for a
- * party with its own primary adapter, or else for party 0 with the sheet's. Joined rules are written out as one, too.
- * The exit status is 0 if the rule is accepted and written, 1 if it is refused, 2 for wrong usage or a file that cannot be read.
+ * party with its own primary adapter, or else for party 0 with the sheet's. Joined rules are written out as one, too, and
+ * what rows are converted to is converted back.
+ * The exit status is 0 if all is accepted and written, 1 if it is refused, 2 for wrong usage or a file that cannot be read.
  */
 #include <stdio.h>
 #include <string.h>
@@ -281,20 +284,33 @@ static void put_tokens(const uint32_t *records)
            (unsigned long)TERGYOSUL_COLUMN(place));
 }
 
-/* What was read, as a text. The result is 1 if it cannot be written: a name may stand on an adapter that is not listed. */
-static int put_text(void)
+/* What was written, or the entry for which nothing is. The result is the exit status. */
+static int put_written(uint32_t number, const char *end)
 {
-    const uint32_t number =
-        tergyosul_write(text, text_length, second, second_length, sheet, sheet_length, party, primary, answer,
-                        TERGYOSUL_ANSWER_WORDS, out, TERGYOSUL_LEAST_BYTES, written, TERGYOSUL_WRITE_WORDS);
-
     if (number != 0) {
         printf("not written: number %lu, entry %lu\n", (unsigned long)number, (unsigned long)written[1]);
         return 1;
     }
     fwrite(out, 1, written[TERGYOSUL_WRITE_LENGTH], stdout);
-    putchar('\n');
+    printf("%s", end);
     return 0;
+}
+
+/* What was read, as a text. It may not be written: a name may stand on an adapter that is not listed. */
+static int put_text(void)
+{
+    return put_written(tergyosul_write(text, text_length, second, second_length, sheet, sheet_length, party, primary, answer,
+                                       TERGYOSUL_ANSWER_WORDS, out, TERGYOSUL_LEAST_BYTES, written,
+                                       TERGYOSUL_WRITE_WORDS),
+                       "\n");
+}
+
+/* What was read or converted, as rows, which end with LF. Conditions and most triggers have none. */
+static int put_rows(void)
+{
+    return put_written(tergyosul_rows_back(sheet, sheet_length, party, primary, answer, TERGYOSUL_ANSWER_WORDS, out,
+                                           TERGYOSUL_LEAST_BYTES, written, TERGYOSUL_WRITE_WORDS),
+                       "");
 }
 
 /* The refusal, with the rule of two that is refused, if it is one of them alone. */
@@ -327,6 +343,11 @@ static uint32_t join_rules(void)
                           TERGYOSUL_ANSWER_WORDS);
 }
 
+static uint32_t convert_rows(void)
+{
+    return tergyosul_rows(text, text_length, sheet, sheet_length, party, primary, answer, TERGYOSUL_ANSWER_WORDS);
+}
+
 static uint32_t read_rule(int is_shop)
 {
     return (is_shop ? tergyosul_read_shop : tergyosul_read)(text, text_length, sheet, sheet_length, topics, topics_length,
@@ -334,23 +355,33 @@ static uint32_t read_rule(int is_shop)
                                                             TERGYOSUL_ANSWER_WORDS);
 }
 
+/* Whether the first argument is this option. */
+static int is_option(const char *option, int count, char **arguments)
+{
+    return count > 1 && strcmp(arguments[1], option) == 0;
+}
+
 int main(int count, char **arguments)
 {
-    const int is_shop = count > 1 && strcmp(arguments[1], "--shop") == 0;
-    const int is_write = count > 1 && strcmp(arguments[1], "--write") == 0;
-    const int is_join = count > 1 && strcmp(arguments[1], "--join") == 0;
+    const int is_shop = is_option("--shop", count, arguments);
+    const int is_write = is_option("--write", count, arguments);
+    const int is_to_rows = is_option("--to-rows", count, arguments);
+    const int is_rows = is_option("--rows", count, arguments);
+    const int is_join = is_option("--join", count, arguments);
+    const int passed = is_shop + is_write + is_to_rows + is_rows + 2 * is_join;
     int has_party, has_topics;
     uint32_t number;
 
     /* from here on the option and the second rule are not counted */
-    count -= is_shop + is_write + 2 * is_join;
-    arguments += is_shop + is_write + 2 * is_join;
+    count -= passed;
+    arguments += passed;
     has_party = count >= 5;
     has_topics = count == 4 || count == 6;
-    if (count < 3 || count > 6 ||
+    if (count < 3 || count > 6 || (is_rows && has_topics) ||
         (has_party && (!byte_of(arguments[count - 2], &party) || !byte_of(arguments[count - 1], &primary)))) {
-        fprintf(stderr, "usage: example [--shop | --write] RULE SHEET [TOPICS] [PARTY PRIMARY]\n"
-                        "       example --join RULE RULE SHEET [TOPICS] [PARTY PRIMARY]\n");
+        fprintf(stderr, "usage: example [--shop | --write | --to-rows] RULE SHEET [TOPICS] [PARTY PRIMARY]\n"
+                        "       example --join RULE RULE SHEET [TOPICS] [PARTY PRIMARY]\n"
+                        "       example --rows ROWS SHEET [PARTY PRIMARY]\n");
         return 2;
     }
     if (!load(arguments[is_join ? 0 : 1], text, &text_length) ||
@@ -361,7 +392,7 @@ int main(int count, char **arguments)
     if (!has_party) {
         primary = (uint8_t)tergyosul_sheet_primary(sheet, sheet_length);
     }
-    number = is_join ? join_rules() : read_rule(is_shop);
+    number = is_join ? join_rules() : is_rows ? convert_rows() : read_rule(is_shop);
     if (number == TERGYOSUL_NO_ROOM) { /* not with an array of this length; answer was not written */
         fprintf(stderr, "there is no room for the answer\n");
         return 2;
@@ -373,7 +404,13 @@ int main(int count, char **arguments)
     if (is_write) {
         return put_text();
     }
+    if (is_to_rows) {
+        return put_rows();
+    }
     put_entries();
+    if (is_rows) {
+        return put_rows();
+    }
     put_tokens(words);
     if (is_join) {
         put_tokens(others);

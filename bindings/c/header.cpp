@@ -55,3 +55,18 @@ std::string text_of(const std::vector<std::uint8_t> &text, const std::vector<std
                                                  TERGYOSUL_WRITE_WORDS);
     return number == 0 ? std::string(out.begin(), out.begin() + answer[TERGYOSUL_WRITE_LENGTH]) : std::string();
 }
+
+std::string rows_of(const std::vector<std::uint8_t> &rows, const std::vector<std::uint8_t> &sheet)
+{
+    static const std::uint8_t nothing = 0;
+    std::uint8_t out[TERGYOSUL_ROWS_LEAST_BYTES] = {0};
+    std::uint32_t lists[TERGYOSUL_ANSWER_WORDS] = {0}, answer[TERGYOSUL_WRITE_WORDS] = {0};
+    const std::uint8_t *rows_bytes = rows.empty() ? &nothing : rows.data();
+    const std::uint8_t *sheet_bytes = sheet.empty() ? &nothing : sheet.data();
+    if (tergyosul_rows(rows_bytes, rows.size(), sheet_bytes, sheet.size(), 0, 0, lists, TERGYOSUL_ANSWER_WORDS) != 0 ||
+        tergyosul_rows_back(sheet_bytes, sheet.size(), 0, 0, lists, TERGYOSUL_ANSWER_WORDS, out, TERGYOSUL_ROWS_LEAST_BYTES,
+                            answer, TERGYOSUL_WRITE_WORDS) != 0) {
+        return std::string();
+    }
+    return std::string(out, out + answer[TERGYOSUL_WRITE_LENGTH]);
+}

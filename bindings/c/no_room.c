@@ -38,9 +38,10 @@ static int is_filled(const uint32_t *array, size_t length)
 int main(void)
 {
     static const uint8_t text[] = "when http trigger";
-    static const uint8_t sheet[] = "primary,0";
-    const size_t text_length = sizeof text - 1, sheet_length = sizeof sheet - 1;
-    uint32_t read, archive, shop, join, written, lexed, chain;
+    static const uint8_t rows[] = "lamp,Till,0,on\n";
+    static const uint8_t sheet[] = "primary,0\nadapter,0\nlamp,0,7,Till";
+    const size_t text_length = sizeof text - 1, rows_length = sizeof rows - 1, sheet_length = sizeof sheet - 1;
+    uint32_t read, archive, shop, join, written, converted, back, lexed, chain;
 
     fill(words, TERGYOSUL_TOKEN_WORDS);
     fill(others, TERGYOSUL_TOKEN_WORDS);
@@ -57,11 +58,14 @@ int main(void)
                           TERGYOSUL_TOKEN_WORDS, others, TERGYOSUL_TOKEN_WORDS, answer, TERGYOSUL_ANSWER_WORDS - 1);
     written = tergyosul_write(text, text_length, text, 0, sheet, sheet_length, 0, 0, lists, TERGYOSUL_ANSWER_WORDS, out,
                               TERGYOSUL_LEAST_BYTES, answer, TERGYOSUL_WRITE_WORDS - 1);
+    converted = tergyosul_rows(rows, rows_length, sheet, sheet_length, 0, 0, answer, TERGYOSUL_ANSWER_WORDS - 1);
+    back = tergyosul_rows_back(sheet, sheet_length, 0, 0, lists, TERGYOSUL_ANSWER_WORDS, out, TERGYOSUL_LEAST_BYTES, answer,
+                               TERGYOSUL_WRITE_WORDS - 1);
     lexed = tergyosul_lex(text, text_length, words, TERGYOSUL_TOKEN_WORDS, answer, TERGYOSUL_LEX_WORDS - 1);
     chain = tergyosul_next_chain(text, 0, answer, TERGYOSUL_CHAIN_WORDS - 1);
     if (read != TERGYOSUL_NO_ROOM || archive != TERGYOSUL_NO_ROOM || shop != TERGYOSUL_NO_ROOM ||
-        join != TERGYOSUL_NO_ROOM || written != TERGYOSUL_NO_ROOM || lexed != TERGYOSUL_NO_ROOM ||
-        chain != TERGYOSUL_NO_ROOM) {
+        join != TERGYOSUL_NO_ROOM || written != TERGYOSUL_NO_ROOM || converted != TERGYOSUL_NO_ROOM ||
+        back != TERGYOSUL_NO_ROOM || lexed != TERGYOSUL_NO_ROOM || chain != TERGYOSUL_NO_ROOM) {
         fprintf(stderr, "an answer without room is not told\n");
         return 1;
     }
@@ -88,6 +92,14 @@ int main(void)
                               TERGYOSUL_LEAST_BYTES, answer, TERGYOSUL_WRITE_WORDS);
     if (written != 0 || answer[TERGYOSUL_WRITE_LENGTH] != text_length || memcmp(out, text, text_length) != 0) {
         fprintf(stderr, "a text whose answer just has room is not written\n");
+        return 1;
+    }
+    converted = tergyosul_rows(rows, rows_length, sheet, sheet_length, 0, 0, lists, TERGYOSUL_ANSWER_WORDS);
+    back = tergyosul_rows_back(sheet, sheet_length, 0, 0, lists, TERGYOSUL_ANSWER_WORDS, out, TERGYOSUL_ROWS_LEAST_BYTES,
+                               answer, TERGYOSUL_WRITE_WORDS);
+    if (converted != 0 || lists[TERGYOSUL_ROW] != TERGYOSUL_LAMP_TURNS || back != 0 ||
+        answer[TERGYOSUL_WRITE_LENGTH] != rows_length || memcmp(out, rows, rows_length) != 0) {
+        fprintf(stderr, "rows whose answer just has room are not converted\n");
         return 1;
     }
     chain = tergyosul_next_chain(text, 0, answer, TERGYOSUL_CHAIN_WORDS);

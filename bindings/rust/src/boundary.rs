@@ -8,7 +8,7 @@
 //!   `uint8_t` and `uint32_t`, and a slice's pointer is aligned. A party and an adapter are a `u8`, so neither is cut.
 //! - The elements were written before: those of a slice are initialised. The library writes whole words, so they stay so.
 //! - An array that is written is apart from all the others: `words`, `others`, `out` and `answer` are borrowed mutably, so
-//!   none overlaps another, a text, the sheet, the topics or the lists. These, which are only read, may be the same bytes.
+//!   none overlaps another, a text, rows, the sheet, the topics or the lists. These, which are only read, may be the same bytes.
 //!
 //! The library has no state, so it keeps no pointer after it returns. That it stays within the slices and returns from every
 //! call is proved. The declarations below are the header's.
@@ -85,6 +85,30 @@ extern "C" {
         first_length: usize,
         second: *const u8,
         second_length: usize,
+        sheet: *const u8,
+        sheet_length: usize,
+        party: u8,
+        primary: u8,
+        lists: *const u32,
+        lists_length: usize,
+        out: *mut u8,
+        out_length: usize,
+        answer: *mut u32,
+        answer_length: usize,
+    ) -> u32;
+
+    fn tergyosul_rows(
+        rows: *const u8,
+        rows_length: usize,
+        sheet: *const u8,
+        sheet_length: usize,
+        party: u8,
+        primary: u8,
+        answer: *mut u32,
+        answer_length: usize,
+    ) -> u32;
+
+    fn tergyosul_rows_back(
         sheet: *const u8,
         sheet_length: usize,
         party: u8,
@@ -219,6 +243,40 @@ pub fn write(
             first.len(),
             second.as_ptr(),
             second.len(),
+            sheet.as_ptr(),
+            sheet.len(),
+            party.number,
+            party.primary,
+            lists.as_ptr(),
+            lists.len(),
+            out.as_mut_ptr(),
+            out.len(),
+            answer.as_mut_ptr(),
+            answer.len(),
+        )
+    }
+}
+
+pub fn rows(rows: &[u8], sheet: &[u8], party: Party, answer: &mut [u32]) -> u32 {
+    // SAFETY: as above: three slices that are borrowed for the call, the mutable one apart from the others.
+    unsafe {
+        tergyosul_rows(
+            rows.as_ptr(),
+            rows.len(),
+            sheet.as_ptr(),
+            sheet.len(),
+            party.number,
+            party.primary,
+            answer.as_mut_ptr(),
+            answer.len(),
+        )
+    }
+}
+
+pub fn rows_back(sheet: &[u8], party: Party, lists: &[u32], out: &mut [u8], answer: &mut [u32]) -> u32 {
+    // SAFETY: as above: four slices that are borrowed for the call, the two mutable ones apart from all others.
+    unsafe {
+        tergyosul_rows_back(
             sheet.as_ptr(),
             sheet.len(),
             party.number,

@@ -1,7 +1,7 @@
 //! Two rules joined.
 
 use crate::rule::MOST;
-use crate::{answer_of, boundary, layout, written, Call, Condition, Party, Refusal, Rule, Trigger, Written, ANSWER_WORDS};
+use crate::{answer_of, boundary, layout, written, Call, Condition, Party, Refusal, Rows, Rule, Trigger, Written, ANSWER_WORDS};
 use core::fmt;
 
 /// One of the two texts of [`join`].
@@ -51,7 +51,8 @@ impl Joined {
         self.rule.conditions().iter().map(|condition| (*condition, Text::First))
     }
 
-    /// The words of the joined rule, with the text of each entry: what [`write`](crate::write) takes.
+    /// The words of the joined rule, with the text of each entry: what [`write`](crate::write) and
+    /// [`write_rows`](crate::write_rows) take.
     pub fn words(&self) -> &[u32; ANSWER_WORDS] {
         self.rule.words()
     }
@@ -79,6 +80,15 @@ impl Joined {
     /// As [`write`](crate::write).
     pub fn written(&self, first: &[u8], second: &[u8], sheet: &[u8], party: Party) -> Result<Written, Refusal> {
         written::kept(self.words(), [first, second], sheet, party)
+    }
+
+    /// The two rules as rows of the previous owners, as [`Rule::to_rows`] gives them of one.
+    ///
+    /// # Panics
+    ///
+    /// As [`write_rows`](crate::write_rows).
+    pub fn to_rows(&self, sheet: &[u8], party: Party) -> Result<Rows, Refusal> {
+        self.rule.to_rows(sheet, party)
     }
 }
 

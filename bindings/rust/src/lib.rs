@@ -2,7 +2,8 @@
 //!
 //! [`read`] takes a rule text and a name sheet, both as bytes, and whose call it is ([`Party`]), perhaps with the topics of
 //! earlier rules ([`Call`]). It gives the rule's triggers and conditions, or one numbered refusal with its place. A rule is
-//! written out as a text again by [`Rule::written`]. All of that is done by the proved library, through its C ABI
+//! written out as a text again by [`Rule::written`]. Rows of the previous owners are triggers by [`convert_rows`], and a rule
+//! that rows can say is rows by [`Rule::to_rows`]. All of that is done by the proved library, through its C ABI
 //! (`include/tergyosul.h`); this crate passes the slices and turns the answer's words into types, with a case for each kind
 //! and code of that header. It needs no standard library, allocates nothing and keeps nothing between calls, so that calls
 //! may run at the same time.
@@ -48,6 +49,7 @@ mod joined;
 mod layout;
 mod party;
 mod refusal;
+mod rows;
 mod rule;
 #[cfg(test)]
 mod tests;
@@ -60,6 +62,7 @@ pub use days::{Day, Days};
 pub use joined::{join, JoinRefusal, Joined, Text};
 pub use party::{sheet_primary, Party};
 pub use refusal::Refusal;
+pub use rows::{convert_rows, write_rows, Rows, ROWS_LEAST_BYTES, ROWS_MOST_BYTES};
 pub use rule::{
     Aggregate, Comparison, Condition, Crossing, Event, Hcl, InputRef, LightTarget, Name, Occupancy, Online, Operand,
     Override, Power, Reading, Ref, Rule, Selector, SolarEvent, Sun, TimeBound, Trigger, Value,

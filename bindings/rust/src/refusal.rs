@@ -6,12 +6,13 @@ use core::fmt;
 /// A refusal: its number, its place and a detail. `docs/MANUAL.md` has an example of each and says what to do.
 #[derive(Debug, Clone, Copy, PartialEq, Eq, Hash)]
 pub struct Refusal {
-    /// 1 to 4, 10 to 13, 15 to 41, 50 to 59 or 63 to 67.
+    /// 1 to 4, 10 to 13, 15 to 41 or 50 to 67.
     pub number: u32,
-    /// From 1, or 0 where there is no place. For number 3 it is the sheet's line, for 55 and 56 an entry of the lists, the
-    /// conditions behind the triggers, for the others the text's.
+    /// From 1, or 0 where there is no place. For number 3 it is the sheet's line, for 55, 56, 61 and 62 an entry of the lists,
+    /// the conditions behind the triggers, for 60 and all others of [`convert_rows`](crate::convert_rows) a row, else the
+    /// text's line.
     pub line: u32,
-    /// From 1, in characters; 0 for the numbers 1 to 3, 51 to 56 and 67.
+    /// From 1, in characters; 0 for the numbers 1 to 3, 51 to 56, 60 to 62 and 67, and for a row.
     pub column: u32,
     /// With 32 an adapter, with 33 and 34 a count of rows, else 0.
     pub detail: u32,
@@ -60,12 +61,15 @@ impl Refusal {
             51 => "the conditions of the two rules differ",
             52 => "the two rules have more than four triggers",
             53 => "the primary adapter is not the party's",
-            54 => "fewer than 4096 bytes were lent for the text",
+            54 => "too few bytes were lent for what is written",
             55 => "no text gives such lists",
             56 => "an adapter is not listed, or broadcast is not on the primary one",
             57 => "the shop profile takes a name here, no number",
             58 => "the shop profile has no broadcast",
             59 => "the shop profile has no reading of event",
+            60 => "one to four well-formed rows belong here",
+            61 => "no rows say such a list",
+            62 => "the sheet has no name for it that a row can have",
             63 => "an argument is given a second time",
             64 => "a topic is empty, or a character of it is forbidden",
             65 => "a topic has more than 48 bytes",
@@ -82,7 +86,9 @@ impl fmt::Display for Refusal {
         match *self {
             Refusal { line: 0, .. } => {}
             Refusal { number: 3, line, .. } => write!(f, "sheet line {line}: ")?,
-            Refusal { number: 55 | 56, line, .. } => write!(f, "entry {line}: ")?,
+            Refusal { number: 55 | 56 | 61 | 62, line, .. } => write!(f, "entry {line}: ")?,
+            // A text's columns begin at 1.
+            Refusal { line, column: 0, .. } => write!(f, "row {line}: ")?,
             Refusal { line, column, .. } => write!(f, "{line}:{column}: ")?,
         }
         f.write_str(self.meaning())?;

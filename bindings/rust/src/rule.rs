@@ -1,6 +1,6 @@
 //! What a rule says, with a case for each kind and code of `include/tergyosul.h`.
 
-use crate::{written, Days, Party, Refusal, Written, ANSWER_WORDS};
+use crate::{rows, written, Days, Party, Refusal, Rows, Written, ANSWER_WORDS};
 use core::fmt;
 
 /// How many triggers a rule has at most, and how many conditions.
@@ -40,7 +40,8 @@ impl Rule {
         &self.conditions[..self.condition_count]
     }
 
-    /// The words of the rule, as `include/tergyosul.h` lays an answer out: what [`write`](crate::write) takes.
+    /// The words of the rule, as `include/tergyosul.h` lays an answer out: what [`write`](crate::write) and
+    /// [`write_rows`](crate::write_rows) take.
     pub fn words(&self) -> &[u32; ANSWER_WORDS] {
         &self.words
     }
@@ -76,6 +77,30 @@ impl Rule {
     /// As [`write`](crate::write).
     pub fn written(&self, text: &[u8], sheet: &[u8], party: Party) -> Result<Written, Refusal> {
         written::kept(&self.words, [text, &[]], sheet, party)
+    }
+
+    /// The rule as rows of the previous owners, as [`write_rows`](crate::write_rows) does, with a sheet and for a party.
+    /// Only a rule without conditions has any, whose triggers are lamps, groups and devices that the sheet names.
+    ///
+    /// ```
+    /// use tergyosul::{Party, TOKEN_WORDS};
+    ///
+    /// let sheet = b"primary,0\nadapter,0\nlamp,0,7,Till\n";
+    /// let party = Party::of_sheet(sheet);
+    /// let read = |text: &[u8]| tergyosul::read(text, sheet, party, &mut [0; TOKEN_WORDS]);
+    ///
+    /// assert_eq!(read(b"when lamp(7) turns off")?.to_rows(sheet, party)?.as_bytes(), b"lamp,Till,0,off\n");
+    ///
+    /// let refusal = read(b"when lamp(7) turns off if sun is down")?.to_rows(sheet, party).unwrap_err();
+    /// assert_eq!(refusal.to_string(), "entry 2: no rows say such a list (refusal 61)");
+    /// # Ok::<(), tergyosul::Refusal>(())
+    /// ```
+    ///
+    /// # Panics
+    ///
+    /// As [`write_rows`](crate::write_rows).
+    pub fn to_rows(&self, sheet: &[u8], party: Party) -> Result<Rows, Refusal> {
+        rows::kept(&self.words, sheet, party)
     }
 }
 

@@ -2,9 +2,11 @@
 
 use crate::rule::*;
 use crate::chain::{decoded, CHAIN_WORDS};
+use crate::rows::rows_in;
 use crate::written::{text_in, WRITE_WORDS};
 use crate::{boundary, layout, lex, read, read_archive, tokens, with_room};
-use crate::{Call, Day, Days, Party, Refusal, Token, ANSWER_WORDS, LEAST_BYTES, LEX_WORDS, MOST_PIECES, RECORD_WORDS, TOKEN_WORDS, VOCABULARY};
+use crate::{Call, Day, Days, Party, Refusal, Token, VOCABULARY};
+use crate::{ANSWER_WORDS, LEAST_BYTES, LEX_WORDS, MOST_PIECES, RECORD_WORDS, ROWS_LEAST_BYTES, ROWS_MOST_BYTES, TOKEN_WORDS};
 use std::format;
 use std::string::{String, ToString};
 use std::vec::Vec;
@@ -565,6 +567,12 @@ fn no_room_for_the_answer() {
         let short = &mut answer[..WRITE_WORDS - 1];
         assert_eq!(boundary::write([text; 2], sheet, ZERO.party, &lists, &mut out, short), boundary::NO_ROOM);
         assert_eq!(boundary::write([text; 2], sheet, ZERO.party, &lists, &mut [], &mut []), boundary::NO_ROOM);
+        assert_eq!(boundary::rows_back(sheet, ZERO.party, &lists, &mut out, short), boundary::NO_ROOM);
+        assert_eq!(boundary::rows_back(sheet, ZERO.party, &lists, &mut [], &mut []), boundary::NO_ROOM);
+        for rows in [&b"lamp,Till,,on\n"[..], b"lamp", b""] {
+            assert_eq!(boundary::rows(rows, sheet, ZERO.party, &mut answer), boundary::NO_ROOM);
+            assert_eq!(boundary::rows(rows, sheet, ZERO.party, &mut []), boundary::NO_ROOM);
+        }
     }
     for text in [&b"when http trigger"[..], b"when @"] {
         assert_eq!(boundary::lex(text, &mut words, &mut answer[..LEX_WORDS - 1]), boundary::NO_ROOM);
@@ -595,6 +603,8 @@ fn the_lengths_are_the_headers() {
     assert_eq!(defined("WRITE_WORDS"), WRITE_WORDS as u32);
     assert_eq!(defined("WRITE_LENGTH"), WRITE_WORDS as u32 - 1);
     assert_eq!(defined("LEAST_BYTES"), LEAST_BYTES as u32);
+    assert_eq!(defined("ROWS_LEAST_BYTES"), ROWS_LEAST_BYTES as u32);
+    assert_eq!(defined("ROWS_MOST_BYTES"), ROWS_MOST_BYTES as u32);
     assert_eq!(defined("CHAIN_WORDS"), CHAIN_WORDS as u32);
     assert_eq!(defined("MOST_PIECES"), MOST_PIECES as u32);
     assert_eq!(defined("NO_ROOM"), boundary::NO_ROOM);
@@ -661,12 +671,12 @@ fn lexing_refuses_what_is_not_utf8() {
 #[test]
 fn every_refusal_has_its_own_meaning() {
     let refusal = |number| Refusal { number, line: 2, column: 3, detail: 4 };
-    let known = |number| matches!(number, 1..=4 | 10..=13 | 15..=41 | 50..=59 | 63..=67);
+    let known = |number| matches!(number, 1..=4 | 10..=13 | 15..=41 | 50..=67);
     let mut meanings: Vec<&str> = (0..100).filter(|&n| known(n)).map(|n| refusal(n).meaning()).collect();
-    assert_eq!(meanings.len(), 50);
+    assert_eq!(meanings.len(), 53);
     meanings.sort();
     meanings.dedup();
-    assert_eq!(meanings.len(), 50);
+    assert_eq!(meanings.len(), 53);
     let unknown = refusal(0).meaning();
     assert!((0..100).all(|n| known(n) != (refusal(n).meaning() == unknown)));
     assert_eq!(refusal(3).to_string(), "sheet line 2: the sheet is not well formed (refusal 3)");
@@ -675,6 +685,9 @@ fn every_refusal_has_its_own_meaning() {
     assert_eq!(others.to_string(), "the primary adapter is not the party's (refusal 53)");
     assert_eq!(refusal(55).to_string(), "entry 2: no text gives such lists (refusal 55)");
     assert_eq!(Refusal { line: 0, ..refusal(55) }.to_string(), "no text gives such lists (refusal 55)");
+    assert_eq!(refusal(62).to_string(), "entry 2: the sheet has no name for it that a row can have (refusal 62)");
+    assert_eq!(Refusal { column: 0, ..refusal(60) }.to_string(), "row 2: one to four well-formed rows belong here (refusal 60)");
+    assert_eq!(Refusal { column: 0, ..refusal(32) }.to_string(), "row 2: the name stands on another adapter, adapter 4 (refusal 32)");
     assert_eq!(refusal(20).to_string(), "2:3: something else belongs here (refusal 20)");
     assert_eq!(refusal(34).to_string(), "2:3: several adapters have the name, 4 rows (refusal 34)");
 }
@@ -793,6 +806,49 @@ fn a_written_text_and_its_words() {
     assert_eq!(written(&lists[..61], LEAST_BYTES), refused(55, 2));
     assert_eq!(written(&lists[..12], LEAST_BYTES), refused(55, 1));
     assert_eq!(written(&[], LEAST_BYTES), refused(55, 0));
+}
+
+/// The same of `tergyosul_rows_back`, and every word of an answer of `tergyosul_rows`.
+#[test]
+fn rows_and_their_words() {
+    let rows = b"lamp,Till,,on\ngroup,Sales floor,0,all_off\ndevice,Gateway,,online\n";
+    let mut lists = [u32::MAX; ANSWER_WORDS + 1];
+    assert_eq!(boundary::rows(rows, SHEET, ZERO.party, &mut lists), 0);
+    assert_row(&lists, 0, &[0, 0, 0, 0, 3, 0], "row 0");
+    assert_row(&lists, 1, &[10, 1, 7, 1], "a lamp");
+    assert_row(&lists, 2, &[12, 0, 1, 2], "a group");
+    assert_row(&lists, 3, &[14, 0, 9, 2], "a device");
+    assert!(lists[48..ANSWER_WORDS].iter().all(|&word| word == 0));
+    assert_eq!(lists[ANSWER_WORDS], u32::MAX);
+    let written = |lists: &[u32], size: usize| {
+        let mut out = [9; ROWS_LEAST_BYTES + 1];
+        let mut answer = [7; WRITE_WORDS + 1];
+        let number = boundary::rows_back(SHEET, ZERO.party, lists, &mut out[..size], &mut answer);
+        let [words @ .., behind] = answer;
+        let (rows, rest) = out.split_at(words[WRITE_WORDS - 1] as usize);
+        assert_eq!((number, behind), (words[0], 7));
+        assert!(rest.iter().all(|&byte| byte == 9));
+        (words, rows.to_vec())
+    };
+    let back = b"lamp,Till,1,on\ngroup,Sales floor,0,all_off\ndevice,Gateway,0,online\n";
+    let refused = |number, line| ([number, line, 0, 0, 0], Vec::new());
+    for (lists, size) in [(&lists[..], ROWS_LEAST_BYTES), (&lists, ROWS_LEAST_BYTES + 1), (&lists[..40], ROWS_LEAST_BYTES)] {
+        assert_eq!(written(lists, size), ([0, 0, 0, 0, back.len() as u32], back.to_vec()));
+    }
+    assert_eq!(written(&lists, ROWS_LEAST_BYTES - 1), refused(54, 0));
+    assert_eq!(written(&lists[..39], ROWS_LEAST_BYTES), refused(61, 3));
+    assert_eq!(written(&lists[..12], ROWS_LEAST_BYTES), refused(61, 1));
+    assert_eq!(written(&[], ROWS_LEAST_BYTES), refused(61, 0));
+    assert_eq!(boundary::rows(b"lamp,Bakery,,on\n", SHEET, ZERO.party, &mut lists), 33);
+    assert_row(&lists, 0, &[33, 1, 0, 2], "a refusal");
+    assert!(lists[12..ANSWER_WORDS].iter().all(|&word| word == 0));
+}
+
+/// The length of rows that another library made up.
+#[test]
+fn broken_rows_are_seen() {
+    let broken = |length| std::panic::catch_unwind(|| rows_in(b"row\n", length).len()).is_err();
+    assert!(broken(5) && !broken(4) && !broken(0));
 }
 
 /// The length of a text that another library made up, or bytes that are no text.

@@ -6,7 +6,7 @@ use core::{fmt, ops, str};
 /// How many bytes a caller lends for a text, at least. With fewer [`write`] gives refusal 54. No text is longer.
 pub const LEAST_BYTES: usize = 4_096;
 
-/// The length of an answer of the library's `tergyosul_write`.
+/// The length of an answer of the library's `tergyosul_write` and `tergyosul_rows_back`.
 pub(crate) const WRITE_WORDS: usize = 5;
 
 /// A rule as a text: what [`Rule::written`](crate::Rule::written) and [`Joined::written`](crate::Joined::written) give.
@@ -111,8 +111,13 @@ pub(crate) fn kept(lists: &[u32], texts: [&[u8]; 2], sheet: &[u8], party: Party)
 
 /// Writes a text, and gives its length.
 fn put(lists: &[u32], texts: [&[u8]; 2], sheet: &[u8], party: Party, out: &mut [u8]) -> Result<usize, Refusal> {
+    length_of(|answer| boundary::write(texts, sheet, party, lists, out, answer))
+}
+
+/// How many bytes a call writes: it writes the words of its answer, too, and gives the number.
+pub(crate) fn length_of(write: impl FnOnce(&mut [u32]) -> u32) -> Result<usize, Refusal> {
     let mut answer = [0; WRITE_WORDS];
-    with_room(boundary::write(texts, sheet, party, lists, out, &mut answer))?;
+    with_room(write(&mut answer))?;
     let [number, line, column, detail, length] = answer;
     if number != 0 {
         return Err(Refusal { number, line, column, detail });

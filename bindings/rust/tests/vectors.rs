@@ -13,7 +13,7 @@ const UNTOUCHED: u32 = u32::MAX;
 /// A call of this crate.
 type Read<'a> = fn(&[u8], &[u8], Call<'a>, &mut [u32]) -> Result<tergyosul::Rule, tergyosul::Refusal>;
 
-/// What every byte for a text holds before it is written.
+/// What every byte for a text or for rows holds before it is written.
 const BLANK: u8 = 165;
 
 /// A stored call, and a start of a chain: its number and its pieces.
@@ -21,6 +21,8 @@ enum Block<'a> {
     Read(Case<'a>),
     Join(Joining<'a>),
     Write(Writing<'a>),
+    Rows(Conversion<'a>),
+    Back(Writing<'a>),
     Next(&'a str, Vec<u8>),
 }
 
@@ -47,6 +49,7 @@ struct Joining<'a> {
     call: Call<'a>,
 }
 
+/// Lists that are written out, with the texts of their names, or converted back to rows.
 struct Writing<'a> {
     id: &'a str,
     size: usize,
@@ -55,6 +58,13 @@ struct Writing<'a> {
     sheet: &'a [u8],
     /// None where the layout of an answer cannot say them.
     lists: Option<[u32; ANSWER_WORDS]>,
+}
+
+struct Conversion<'a> {
+    id: &'a str,
+    party: Party,
+    rows: &'a [u8],
+    sheet: &'a [u8],
 }
 
 fn stored(name: &str) -> Vec<u8> {
@@ -93,9 +103,9 @@ fn party(number: &str, primary: &str) -> Party {
     Party { number: number.parse().expect("a party"), primary: primary.parse().expect("an adapter") }
 }
 
-/// A line of lists, two counts and eight rows with a text each, laid out as an answer. That has one text for all conditions,
-/// and 0 stands for the first one there.
-fn lists(line: &str) -> Option<[u32; ANSWER_WORDS]> {
+/// A line of lists, two counts and eight rows with a text each, laid out as an answer, and whether that says the texts: it has
+/// one text for all conditions, and 0 stands for the first one there.
+fn lists(line: &str) -> ([u32; ANSWER_WORDS], bool) {
     let numbers: Vec<u32> = line.split(' ').map(|number| number.parse().expect("a word")).collect();
     let (counts, rows) = numbers.split_at(2);
     let mut words = [0; ANSWER_WORDS];
@@ -110,7 +120,7 @@ fn lists(line: &str) -> Option<[u32; ANSWER_WORDS]> {
     // Of the rows in use.
     let [triggers, conditions] = [(&texts[..4], counts[0]), (&texts[4..], counts[1])].map(|(texts, count)| &texts[..count.min(4) as usize]);
     let is_said = triggers.iter().all(|&text| text != 0) && conditions.iter().all(|&text| text != 0 && text == words[11]);
-    is_said.then_some(words)
+    (words, is_said)
 }
 
 /// The block with this first line, whose bytes follow. A `case` is party 0's, with the sheet's own primary and no topics.
@@ -133,7 +143,19 @@ fn block<'a>(header: &[&'a str], input: &mut &'a [u8]) -> Block<'a> {
         }
         ["write", id, bytes, number, primary, first, second, sheet] => {
             let (texts, sheet) = ([body(input, first), body(input, second)], body(input, sheet));
-            Block::Write(Writing { id, size: size(bytes), party: party(number, primary), texts, sheet, lists: lists(line(input)) })
+            let (words, is_said) = lists(line(input));
+            let lists = is_said.then_some(words);
+            Block::Write(Writing { id, size: size(bytes), party: party(number, primary), texts, sheet, lists })
+        }
+        ["rows", id, number, primary, rows, sheet] => {
+            let (rows, sheet) = (body(input, rows), body(input, sheet));
+            Block::Rows(Conversion { id, party: party(number, primary), rows, sheet })
+        }
+        ["back", id, bytes, number, primary, sheet] => {
+            let sheet = body(input, sheet);
+            // No text belongs to it.
+            let (words, _) = lists(line(input));
+            Block::Back(Writing { id, size: size(bytes), party: party(number, primary), texts: [b""; 2], sheet, lists: Some(words) })
         }
         ["next", id, _, _] => {
             let pieces = line(input).split_terminator(' ').map(|piece| piece.parse().expect("a piece")).collect();
@@ -175,7 +197,15 @@ fn answer(block: &Block) -> Option<String> {
     match block {
         Block::Read(case) => Some(answer_to_case(case)),
         Block::Join(joining) => Some(answer_to_joining(joining)),
-        Block::Write(writing) => writing.lists.map(|lists| answer_to_writing(writing, &lists)),
+        Block::Write(writing) => writing.lists.map(|lists| {
+            let Writing { texts, sheet, party, .. } = *writing;
+            answer_to_writing(writing, |out| tergyosul::write(&lists, texts, sheet, party, out).map(str::as_bytes))
+        }),
+        Block::Rows(conversion) => Some(answer_to_rows(conversion)),
+        Block::Back(writing) => writing.lists.map(|lists| {
+            let Writing { sheet, party, .. } = *writing;
+            answer_to_writing(writing, |out| tergyosul::write_rows(&lists, sheet, party, out))
+        }),
         Block::Next(id, pieces) => Some(answer_to_start(id, pieces)),
     }
 }
@@ -199,12 +229,22 @@ fn answer_to_joining(joining: &Joining) -> String {
     format!("case {id}\n{}{}{said}", buffer(&words), buffer(&others))
 }
 
-fn answer_to_writing(writing: &Writing, lists: &[u32]) -> String {
-    let Writing { id, size, party, texts, sheet, .. } = *writing;
+/// The rows come without a line for a buffer.
+fn answer_to_rows(conversion: &Conversion) -> String {
+    let Conversion { id, party, rows, sheet } = *conversion;
+    let said = match tergyosul::convert_rows(rows, sheet, party) {
+        Err(r) => format!("refused {}\n", refusal(r)),
+        Ok(rule) => shown::rule(&rule, b""),
+    };
+    format!("case {id}\n{said}")
+}
+
+fn answer_to_writing(writing: &Writing, write: impl FnOnce(&mut [u8]) -> Result<&[u8], Refusal>) -> String {
+    let Writing { id, size, .. } = *writing;
     let mut out = vec![BLANK; size];
-    let (length, said) = match tergyosul::write(lists, texts, sheet, party, &mut out) {
+    let (length, said) = match write(&mut out) {
         Err(r) => (0, format!("refused {}", refusal(r))),
-        Ok(text) => (text.len(), text.bytes().fold(format!("written {} x", text.len()), |line, byte| format!("{line}{byte:02x}"))),
+        Ok(text) => (text.len(), text.iter().fold(format!("written {} x", text.len()), |line, byte| format!("{line}{byte:02x}"))),
     };
     let kept = out[length..].iter().all(|&byte| byte == BLANK);
     format!("case {id}\nbuffer {}\n{said}\n", if kept { "kept" } else { "changed" })
@@ -239,6 +279,8 @@ fn every_stored_answer_is_given() {
     let (blocks, answers) = (blocks(&input), answers(&output));
     assert!(blocks.iter().filter(|block| matches!(block, Block::Read(_))).count() >= 1286);
     assert!(blocks.iter().filter(|block| matches!(block, Block::Next(..))).count() >= 100);
+    assert!(blocks.iter().filter(|block| matches!(block, Block::Rows(_))).count() >= 100);
+    assert!(blocks.iter().filter(|block| matches!(block, Block::Back(_))).count() >= 100);
     assert_eq!(blocks.len(), answers.len());
     for (block, expected) in blocks.iter().zip(&answers) {
         if let Some(answer) = answer(block) {
@@ -270,7 +312,7 @@ fn accepted<'a>(block: &Block<'a>) -> Option<Accepted<'a>> {
             let written = joined.written(first, second, sheet, call.party);
             Some(Accepted { id, sheet, party: call.party, shown: shown::joined(&joined, first, second), written })
         }
-        Block::Write(_) | Block::Next(..) => None,
+        Block::Write(_) | Block::Rows(_) | Block::Back(_) | Block::Next(..) => None,
     }
 }
 

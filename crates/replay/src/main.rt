@@ -1,5 +1,6 @@
 // The replay program: reads cases and calls, hands each to the reader, and writes one answer for each. docs/REPLAY.md has its format.
 mod chain;
+mod converting;
 mod forms;
 mod input;
 mod joining;
@@ -196,7 +197,7 @@ fn rest_of_call() -> bool {
     })
 }
 
-// What follows the first word; false where that is none of `case `, `call `, `join `, `next ` and `write`.
+// What follows the first word; false where that is none of `case `, `call `, `join `, `next `, `rows `, `back ` and `write`.
 fn rest(first: &[u8]) -> bool {
     if text::part::same(first, b"case ") {
         return rest_of_case();
@@ -210,13 +211,19 @@ fn rest(first: &[u8]) -> bool {
     if text::part::same(first, b"next ") {
         return chain::rest();
     }
+    if text::part::same(first, b"rows ") {
+        return converting::rest_of_rows();
+    }
+    if text::part::same(first, b"back ") {
+        return converting::rest_of_back();
+    }
     if text::part::same(first, b"write") {
         return written::rest();
     }
     false
 }
 
-// One case, call, joining, chain or writing; false at the end of the input, and where it is none of them.
+// One case, call, joining, chain, conversion or writing; false at the end of the input, and where it is none of them.
 fn one_case() -> bool {
     let mut first = [0u8; 5];
     if io::read_full(0, &mut first) == 0 {

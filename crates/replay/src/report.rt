@@ -81,7 +81,7 @@ fn entries(out: &mut [u8], at: usize, text: &[u8], answer: &[u32]) -> usize {
 }
 
 // What was read, or the refusal.
-fn result(out: &mut [u8], at: usize, text: &[u8], answer: &[u32], number: u32) -> usize {
+pub fn result(out: &mut [u8], at: usize, text: &[u8], answer: &[u32], number: u32) -> usize {
     if number != 0 {
         return show::line(out, at, text, answer, 0, b"", b"\nrefused #0 #1 #2 #3");
     }

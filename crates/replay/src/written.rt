@@ -13,17 +13,17 @@ use writing::TriggersFrom;
 use writing::Written;
 
 // The most bytes that a line lends.
-const MOST_SIZE: usize = 8192;
+pub const MOST_SIZE: usize = 8192;
 
 // What every byte of them is before a call.
-const UNTOUCHED: u8 = 165;
+pub const UNTOUCHED: u8 = 165;
 
 // The numbers of both lists: the two counts, and for each of eight entries the text in which its names stand and the words of its row.
-const NUMBERS: usize = 106;
+pub const NUMBERS: usize = 106;
 
 const TRIGGER_COUNT: usize = 0;
 
-const CONDITION_COUNT: usize = 1;
+pub const CONDITION_COUNT: usize = 1;
 
 const TRIGGERS: usize = 2;
 
@@ -50,7 +50,7 @@ struct Head {
 }
 
 // Reads a line of as many numbers of one word as a buffer has room for; false where it is none.
-fn fill(numbers: &mut [u32]) -> bool {
+pub fn fill(numbers: &mut [u32]) -> bool {
     let count = numbers.len();
     let mut i = 0;
     while i < count {
@@ -86,7 +86,7 @@ fn condition(numbers: &[u32], at: usize) -> ConditionFrom {
     tergyosul::lists::condition_from(from, row(numbers, std::num::wrapping_add_usize(at, 1)))
 }
 
-fn triggers(numbers: &[u32]) -> TriggersFrom {
+pub fn triggers(numbers: &[u32]) -> TriggersFrom {
     let mut rows = [TriggerFrom {
         from: 0,
         trigger: Trigger::HttpTrigger,
@@ -163,8 +163,8 @@ fn lines(out: &mut [u8], id: u64, buffer: &[u8], w: Written) -> usize {
     out::bytes(out, r, b"\n")
 }
 
-// Writes the lines of one writing at once.
-fn write(id: u64, buffer: &[u8], w: Written) {
+// Writes the lines of one writing, or of one conversion back, at once.
+pub fn write(id: u64, buffer: &[u8], w: Written) {
     let mut out = [0u8; ROOM];
     let end = lines(&mut out, id, buffer, w);
     io::write_all(1, text::part::part(&out, 0, end));

@@ -1,7 +1,9 @@
-// `rules check RULES SHEET`, with perhaps options: both lists in plain words, or one diagnostic. `rules write RULES SHEET` goes the same way up to a rule that is
-// accepted, which it writes.
+// `rules check RULES SHEET`, with perhaps options: both lists in plain words, or one diagnostic. `write` and `rows-back` go the same way up to a rule that is
+// accepted, of which they make something else, and `rows` up to its files.
 use crate::diagnose;
+use crate::from_rows;
 use crate::reading;
+use crate::to_rows;
 use crate::writing_out;
 use sheet::Call;
 use sheet::Habit;
@@ -14,6 +16,14 @@ use wording::out;
 use wording::rows;
 use wording::say;
 use wording::seen;
+
+// What is done with two files, of which the second is the sheet: a rule is checked, written out or converted to rows, or rows are converted.
+pub enum Task {
+    Check,
+    Write,
+    Back,
+    Rows,
+}
 
 // Is a row in use? Rows 1 to 4 are for triggers, 5 to 8 for conditions.
 pub fn is_used(answer: &[u32], row: u32) -> bool {
@@ -78,9 +88,50 @@ pub fn asked(o: Options, sheet: &[u8]) -> Call {
     }
 }
 
+// What came of a rule that is accepted.
+fn done(
+    task: Task,
+    call: Call,
+    text: &[u8],
+    sheet: &[u8],
+    lent: &[u8],
+    words: &mut [u32],
+    answer: &[u32],
+    text_name: &[u8],
+    sheet_name: &[u8],
+) {
+    match task {
+        Task::Write => {
+            writing_out::run(
+                call,
+                text,
+                sheet,
+                lent,
+                words,
+                answer,
+                text_name,
+                sheet_name,
+            )
+        }
+        Task::Back => {
+            to_rows::run(
+                call,
+                text,
+                sheet,
+                lent,
+                words,
+                answer,
+                text_name,
+                sheet_name,
+            )
+        }
+        _ => accepted(text, sheet, answer),
+    }
+}
+
 // What came of the call, said with what its party sees of the sheet.
 fn said(
-    writes: bool,
+    task: Task,
     call: Call,
     text: &[u8],
     sheet: &[u8],
@@ -97,16 +148,22 @@ fn said(
         diagnose::show(text, seen, lent, words, answer, text_name, sheet_name, call);
         return;
     }
-    if writes {
-        writing_out::run(call, text, seen, lent, words, answer, text_name, sheet_name);
-        return;
-    }
-    accepted(text, seen, answer);
+    done(
+        task,
+        call,
+        text,
+        seen,
+        lent,
+        words,
+        answer,
+        text_name,
+        sheet_name,
+    );
 }
 
 // Reads the rule and says what came of it.
 fn answered(
-    writes: bool,
+    task: Task,
     call: Call,
     text: &[u8],
     sheet: &[u8],
@@ -121,7 +178,7 @@ fn answered(
         return;
     }
     said(
-        writes,
+        task,
         call,
         text,
         sheet,
@@ -144,10 +201,26 @@ pub fn load_topics(o: Options, buf: &mut [u8]) -> Loaded {
     files::load_topics(name, buf)
 }
 
-// Reads the file of topics, and the rule with it.
+// Converts rows, or reads a rule.
+fn given_files(
+    task: Task,
+    call: Call,
+    text: &[u8],
+    sheet: &[u8],
+    lent: &[u8],
+    text_name: &[u8],
+    sheet_name: &[u8],
+) {
+    match task {
+        Task::Rows => from_rows::run(call, text, sheet, text_name, sheet_name),
+        _ => answered(task, call, text, sheet, lent, text_name, sheet_name),
+    }
+}
+
+// Reads the file of topics, and goes on with it.
 fn with_topics(
     o: Options,
-    writes: bool,
+    task: Task,
     text: &[u8],
     sheet: &[u8],
     text_name: &[u8],
@@ -159,8 +232,8 @@ fn with_topics(
         return;
     }
     let lent = text::part::part(&topics, 0, loaded.size);
-    answered(
-        writes,
+    given_files(
+        task,
         asked(o, sheet),
         text,
         sheet,
@@ -170,8 +243,8 @@ fn with_topics(
     );
 }
 
-// Reads the files of the rule and the sheet, and what the options name.
-fn with_files(o: Options, writes: bool, text_name: &[u8], sheet_name: &[u8]) {
+// Reads the files of the rule, or of rows, and of the sheet, and what the options name.
+fn with_files(o: Options, task: Task, text_name: &[u8], sheet_name: &[u8]) {
     let mut text = [0u8; 20000];
     let mut sheet = [0u8; 20000];
     let first = files::load(text_name, &mut text);
@@ -184,7 +257,7 @@ fn with_files(o: Options, writes: bool, text_name: &[u8], sheet_name: &[u8]) {
     }
     with_topics(
         o,
-        writes,
+        task,
         text::part::part(&text, 0, first.size),
         text::part::part(&sheet, 0, second.size),
         text_name,
@@ -192,15 +265,15 @@ fn with_files(o: Options, writes: bool, text_name: &[u8], sheet_name: &[u8]) {
     );
 }
 
-// Checks a rule, or writes it. The names of the files are the words behind the options, in a call with so many.
-pub fn run(o: Options, writes: bool, count: usize) {
+// The names of the files are the words behind the options, in a call with so many.
+pub fn run(o: Options, task: Task, count: usize) {
     let mut text_name = [0u8; 4095];
     let mut sheet_name = [0u8; 4095];
     let n = os::arg(o.at, &mut text_name);
     let m = os::arg(options::further(o.at, 1, count), &mut sheet_name);
     with_files(
         o,
-        writes,
+        task,
         text::part::part(&text_name, 0, n),
         text::part::part(&sheet_name, 0, m),
     );

@@ -78,6 +78,32 @@ pub fn write(call: Call, text: &[u8], sheet: &[u8], l: Lists, into: &mut [u8]) -
     writer::write(text, b"", sheet, party, primary, l, into)
 }
 
+// Converts rows of the archive to triggers, whose words go to the answer; the habit has no part in it.
+pub fn convert(call: Call, archive: &[u8], sheet: &[u8], answer: &mut [u32]) {
+    let a = old_rows::convert::convert(archive, sheet, call.party, call.primary);
+    flat::put_answer(answer, a);
+}
+
+// Reads a rule text by a call, and converts its triggers to rows in a lent buffer.
+pub fn back(
+    call: Call,
+    text: &[u8],
+    sheet: &[u8],
+    lent: &[u8],
+    words: &mut [u32],
+    into: &mut [u8],
+) -> Written {
+    let a = reader::read::read_by(call, text, sheet, lent, words);
+    old_rows::restore::back(
+        sheet,
+        call.party,
+        call.primary,
+        a.triggers,
+        a.conditions.count,
+        into,
+    )
+}
+
 // The sheet's own primary adapter; 0 where it names none.
 pub fn primary(sheet: &[u8]) -> u32 {
     tergyosul::tergyosul_sheet_primary(sheet)

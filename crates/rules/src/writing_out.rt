@@ -72,7 +72,7 @@ fn left_out(call: Call, text: &[u8], sheet: &[u8], lent: &[u8], words: &mut [u32
 }
 
 // The entry with an ordinal, triggers first, as in `trigger 2`.
-fn ordinal(answer: &[u32], line: u32) {
+pub fn ordinal(answer: &[u32], line: u32) {
     let n = layout::triggers(answer);
     if line <= n {
         say::number(line, b"trigger %n0");
@@ -82,7 +82,7 @@ fn ordinal(answer: &[u32], line: u32) {
 }
 
 // The row of the entry with an ordinal.
-fn row_of(answer: &[u32], line: u32) -> usize {
+pub fn row_of(answer: &[u32], line: u32) -> usize {
     let n = layout::triggers(answer);
     if line <= n {
         return line as usize;
@@ -127,7 +127,7 @@ fn unreached(
 }
 
 // No rule that was read gets another number.
-fn faulty(number: u32) {
+pub fn faulty(number: u32) {
     say::number(
         number,
         b"a rule that is accepted could not be written: this is a fault of the program, not of the rule\nrefused: %n0\n",

@@ -1,4 +1,5 @@
 mod ChainLaws
+mod ConvertingLaws
 mod JoiningLaws
 mod NumberLaws
 mod RoomLaws

@@ -1,14 +1,14 @@
--- No answer has the number `noRoom`: the result of `tergyosul_read`, of `tergyosul_read_archive`, of `tergyosul_read_shop`, of `tergyosul_join`, of `tergyosul_write` or of
--- `tergyosul_next_chain` is that number just where there is no room.
-use Prim.Native.Nat.{ℕ, _<_, _≤_}
+-- No answer has the number `noRoom`: the result of `tergyosul_read`, of `tergyosul_read_archive`, of `tergyosul_read_shop`, of `tergyosul_join`, of `tergyosul_write`, of
+-- `tergyosul_rows`, of `tergyosul_rows_back` or of `tergyosul_next_chain` is that number just where there is no room.
+use Prim.Native.Nat.{ℕ, _+_, _<_, _≤_}
 use native.Mathlib.Omega.{arith}
 use mathlib.Core.Path.{_≡_, refl}
 use mathlib.Core.Bool.{Bool, true, false}
-use mathlib.Core.List.{List}
+use mathlib.Core.List.{List, [], _∷_}
 use lib.ListN.{length}
 use lib.Dec.{ltb, eqb}
 use borrow.Author.Tests.{ltb-true}
-use Rattle.text.specs.Choice.{pick}
+use Rattle.text.specs.Choice.{pick, within}
 use Rattle.text.proofs.Tests.{picked}
 use Rattle.text.specs.Utf8.{Character}
 use Rattle.text.specs.Place.{checkOf}
@@ -19,11 +19,17 @@ use Rattle.tokens.specs.Lexing.{Lexing, mostBytes, leastWords}
 use Rattle.tokens.specs.Lex.{lexText}
 use Rattle.tokens.specs.Layout.{Laid, end, refusal, next, Lexical}
 use Rattle.tokens.proofs.LayoutLaws.{laid}
-use Rattle.sheet.specs.Sheet.{Sheet, well-formed, bad-line, sheetCheck}
+use Rattle.sheet.specs.Sheet.{Sheet, Entry, well-formed, bad-line, sheetCheck, lines}
 use Rattle.sheet.specs.View.{View, seen, ownPrimary}
+use Rattle.sheet.specs.Resolve.{elsewhere, noneOf, chosen, pickNamed}
 use Rattle.sheet.specs.declared.Call.{Call}
+use Rattle.sheet.specs.declared.resolve.Found.{Found}
+use Rattle.sheet.specs.declared.resolve.Found.the-variants.{One, Refused}
+use Rattle.sheet.specs.declared.resolve.Scope.{Scope}
 use Rattle.model.specs.Lists.{acceptedWith, refusedWith}
 use Rattle.model.specs.declared.Condition.{Condition}
+use Rattle.model.specs.declared.Trigger.{Trigger}
+use Rattle.model.specs.declared.Triggers.{Triggers}
 use Rattle.model.specs.declared.Answer.{Answer}
 use Rattle.references.proofs.NumberLaws.{Refuses, refusal-most}
 use Rattle.language.proofs.RefusalLaws.{call-refuses}
@@ -37,6 +43,13 @@ use Rattle.chains.specs.Listed.{chain, refused}
 use Rattle.chains.specs.Way.{following, isStart, nextOf}
 use Rattle.writing.specs.declared.Lists as written
 use Rattle.writing.specs.Writing as writing
+use Rattle.old_rows.specs.Row.{rowOf, rowName}
+use Rattle.old_rows.specs.Convert as rows
+use Rattle.old_rows.specs.Convert.{Conversion, converted, stopped}
+use Rattle.old_rows.specs.Back as rows-back
+use Rattle.old_rows.specs.declared.row.Change.{Change}
+use Rattle.old_rows.specs.declared.row.Row.{Row}
+use Rattle.old_rows.specs.declared.row.Row.the-variants.{Says, Malformed}
 use Rattle.tergyosul.specs.Chains.{chainAnswerWords}
 use Rattle.tergyosul.specs.Room.{noRoom, byRoom}
 use Rattle.tergyosul.specs.Writing.{writeAnswerWords}
@@ -195,3 +208,97 @@ module _ (party primary : ℕ) (first second sheet : List ℕ) (l : written.List
       byRoom writeAnswerWords answer noRoom (writing.writeOf party primary first second sheet l out .answer .number) ≡ noRoom →
       length answer < writeAnswerWords
   no-write-alone answer e = alone writeAnswerWords answer _ (let known = write-known in omega arith) e
+
+-- rows say 3, 25, 31 to 34, 53 or 60
+unfoldable Found-known : Found → Type 0
+Found-known (One adapter number) = Unit {0}
+Found-known (Refused number detail) = Known number
+
+unfoldable Conversion-known : Conversion → Type 0
+Conversion-known (converted xs) = Unit {0}
+Conversion-known (stopped number row detail) = Known number
+
+chosen-known : (all some : List Entry) → Found-known (chosen all some)
+unfolding chosen noneOf Found-known
+chosen-known [] [] = omega arith
+chosen-known (e ∷ es) [] = omega arith
+chosen-known all (e ∷ []) = tt
+chosen-known all (e ∷ f ∷ es) = picked Known (elsewhere (e .adapter) (f ∷ es)) (λ _. omega arith) (λ _. omega arith)
+
+onto-known : (x : Trigger) (c : Conversion) → Conversion-known c → Conversion-known (rows.onto x c)
+unfolding rows.onto Conversion-known
+onto-known x (converted xs) h = tt
+onto-known x (stopped number row detail) h = h
+
+by-found-known : (n : ℕ) (change : Change) (f : Found) (others : Conversion) → Found-known f → Conversion-known others → Conversion-known (rows.byFound n change f others)
+unfolding rows.byFound Found-known Conversion-known
+by-found-known n change (One adapter number) others h k = onto-known _ others k
+by-found-known n change (Refused number detail) others h k = h
+
+answered-known : (c : Conversion) → Conversion-known c → Known (rows.answered c .number)
+unfolding rows.answered Conversion-known acceptedWith refusedWith
+answered-known (converted xs) h = omega arith
+answered-known (stopped number row detail) h = h
+
+module _ (view : View) where
+  found-of-known : (change : Change) (scope : Scope) (name : List ℕ) → Found-known (rows.foundOf view change scope name)
+  unfolding rows.foundOf pickNamed Found-known
+  found-of-known change scope name = picked Found-known (rows.isSeen view scope) (λ _. chosen-known _ _) (λ _. omega arith)
+
+  found-in-known : (r : Row) (name : List ℕ) → Found-known (rows.foundIn view r name)
+  unfolding rows.foundIn Found-known
+  found-in-known (Says change scope) name = found-of-known change scope name
+  found-in-known Malformed name = omega arith
+
+  convert-known : (n : ℕ) (ls : List (List ℕ)) → Conversion-known (rows.convertFrom view n ls)
+  unfolding rows.convertFrom Conversion-known
+  convert-known n [] = tt
+  convert-known n (l ∷ ls) = by-found-known n _ _ _ (found-in-known (rowOf l) (rowName l)) (convert-known (n + 1) ls)
+
+  shape-known : (s : List ℕ) → Known (rows.byShape view s .number)
+  unfolding rows.byShape refusedWith
+  shape-known s =
+      let known : Answer → Type 0 = λ a. Known (a .number) in
+      picked known (eqb (length s) 0) (λ _. omega arith)
+      (λ _. picked known (eqb (rows.firstMalformed s) 0) (λ _. answered-known _ (convert-known 1 (lines s))) (λ _. omega arith))
+
+  rows-sheet-known : (s : List ℕ) (own : Bool) (x : Sheet) → Known (rows.bySheet view s own x .number)
+  unfolding rows.bySheet rows.byPrimary refusedWith
+  rows-sheet-known s true well-formed = shape-known s
+  rows-sheet-known s false well-formed = omega arith
+  rows-sheet-known s own (bad-line n) = omega arith
+
+-- going back it says 3, 53, 54, 61 or 62
+module _ (view : View) (l : Triggers) (conditions : ℕ) (out : List ℕ) where
+  entries-known : Written-known (rows-back.byEntries view l conditions out)
+  unfolding rows-back.byEntries rows-back.byNames writing.refusedAt writing.writtenWith
+  entries-known =
+      picked Written-known (within 1 mostTriggers (l .count))
+      (λ _. picked Written-known (eqb (rows-back.firstOther l conditions) 0)
+      (λ _. picked Written-known (eqb (rows-back.firstUnnamed view l) 0) (λ _. omega arith) (λ _. omega arith)) (λ _. omega arith))
+      (λ _. omega arith)
+
+  back-sheet-known : (own : Bool) (x : Sheet) → Written-known (rows-back.bySheet view l conditions out own x)
+  unfolding rows-back.bySheet rows-back.byRoom writing.refusedAt
+  back-sheet-known true well-formed = picked Written-known (ltb (length out) rows-back.leastBytes) (λ _. omega arith) (λ _. entries-known)
+  back-sheet-known false well-formed = omega arith
+  back-sheet-known own (bad-line n) = omega arith
+
+module _ (party primary : ℕ) (sheet : List ℕ) where
+  rows-known : (s : List ℕ) → Known (rows.rowsOf party primary s sheet .number)
+  unfolding rows.rowsOf
+  rows-known s = rows-sheet-known (seen (ruleCall party primary) sheet) s (ownPrimary (ruleCall party primary) sheet) (sheetCheck sheet)
+
+  pub no-rows-alone : (s answer : List ℕ) → byRoom answerWords answer noRoom (rows.rowsOf party primary s sheet .number) ≡ noRoom →
+      length answer < answerWords
+  no-rows-alone s answer e = alone answerWords answer _ (let known = rows-known s in omega arith) e
+
+  back-known : (l : Triggers) (conditions : ℕ) (out : List ℕ) → Written-known (rows-back.backOf party primary sheet l conditions out)
+  unfolding rows-back.backOf
+  back-known l conditions out =
+      back-sheet-known (seen (ruleCall party primary) sheet) l conditions out (ownPrimary (ruleCall party primary) sheet) (sheetCheck sheet)
+
+  pub no-back-alone : (l : Triggers) (conditions : ℕ) (out answer : List ℕ) →
+      byRoom writeAnswerWords answer noRoom (rows-back.backOf party primary sheet l conditions out .answer .number) ≡ noRoom →
+      length answer < writeAnswerWords
+  no-back-alone l conditions out answer e = alone writeAnswerWords answer _ (let known = back-known l conditions out in omega arith) e

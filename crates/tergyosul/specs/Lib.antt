@@ -1,4 +1,5 @@
 pub mod Chains
+pub mod Converting
 pub mod Lexing
 pub mod Room
 pub mod Joining

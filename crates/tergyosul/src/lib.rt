@@ -1,5 +1,6 @@
 // The library for C and Rust: numbers and slices only. A slice is passed as a pointer and a length.
 pub mod chain;
+pub mod converting;
 pub mod joining;
 pub mod lists;
 pub mod written;

@@ -3,6 +3,8 @@ use flat::rows::ROW_WORDS;
 use flat::rows::Row;
 use model::Condition;
 use model::Trigger;
+use model::TriggerRow;
+use model::Triggers;
 use writing::ConditionFrom;
 use writing::ConditionsFrom;
 use writing::Lists;
@@ -12,6 +14,7 @@ ghost use mathlib.Core.Path.{_≡_};
 ghost use Prim.Native.Nat.{_<_};
 ghost use Rattle.flat.specs.Flat.{listRows, rowCount};
 ghost use Rattle.flat.specs.Back.{word};
+ghost use Rattle.tergyosul.specs.Converting.{withoutText, withoutTexts, triggersAlone, conditionCount};
 ghost use Rattle.tergyosul.specs.Writing.{triggerFrom, conditionFrom, rowIn, textSaid, triggerIn, conditionIn, triggersIn, conditionsIn, listsIn};
 
 // Where in row 0 the counts stand, and the texts.
@@ -154,4 +157,40 @@ pub fn lists_in(words: &[u32]) -> Lists
         triggers: triggers_in(words),
         conditions: conditions_in(words),
     }
+}
+
+// A trigger without the text of its name.
+fn without_text(x: TriggerFrom) -> TriggerRow
+    ensures { λ r. ⌜ r ≡ withoutText x ⌝ }
+{
+    let trigger = x.trigger;
+    TriggerRow { trigger }
+}
+
+pub fn without_texts(t: TriggersFrom) -> Triggers
+    ensures { λ r. ⌜ r ≡ withoutTexts t ⌝ }
+{
+    Triggers {
+        rows: [
+            without_text(t.rows[0]),
+            without_text(t.rows[1]),
+            without_text(t.rows[2]),
+            without_text(t.rows[3]),
+        ],
+        count: t.count as usize,
+    }
+}
+
+// The triggers alone. Of words that are no trigger's row it is one that no row of the previous owners says.
+pub fn triggers_alone(words: &[u32]) -> Triggers
+    ensures { λ r. ⌜ r ≡ triggersAlone (now (words .entry)) ⌝ }
+{
+    without_texts(triggers_in(words))
+}
+
+// How many conditions there are.
+pub fn condition_count(words: &[u32]) -> usize
+    ensures { λ r. ⌜ r ≡ conditionCount (now (words .entry)) ⌝ }
+{
+    word_in(words, CONDITION_COUNT) as usize
 }

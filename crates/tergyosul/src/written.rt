@@ -6,10 +6,10 @@ ghost use Rattle.tergyosul.specs.Room.{noRoom, byRoom};
 ghost use Rattle.tergyosul.specs.Writing.{listsIn, writeAnswerWords, writtenFlat};
 
 // The length of an answer: number, line, column, detail, and how many bytes are written.
-const WRITE_WORDS: usize = 5;
+pub const WRITE_WORDS: usize = 5;
 
 // Writes an answer. Where there is no room for all of it nothing is written.
-fn put_written(answer: &mut [u32], w: Written)
+pub fn put_written(answer: &mut [u32], w: Written)
     ensures { λ _. ⌜ now (answer .exit) ≡ writtenFlat w (now (answer .entry)) ⌝ }
 {
     if answer.len() < WRITE_WORDS {

@@ -1,4 +1,6 @@
 // The words of the program `rules`: what it says of entries, names, tokens and faults, and its options and files. It is proved safe and to end.
+pub mod archive;
+pub mod archive_name;
 pub mod aside;
 pub mod day;
 pub mod fault;
@@ -28,4 +30,5 @@ pub mod title;
 pub mod topic;
 pub mod trial;
 pub mod unlisted;
+pub mod unnamed;
 pub mod value;

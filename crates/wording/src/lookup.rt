@@ -22,7 +22,7 @@ pub fn for_party(sheet: &[u8], party: u8) {
 }
 
 // The adapters in a set, in a sentence for none, for one and for several, in which `%n0` is a number.
-fn by_count(marks: &[u8], n: u32, table: &[u8]) {
+pub fn by_count(marks: &[u8], n: u32, table: &[u8]) {
     let count = text::place::held(marks::count(marks));
     say::set(marks, n, split::numbered(table, count));
 }
@@ -34,16 +34,21 @@ fn or_add(sheet: &[u8], party: u8, adapter: u32) {
     }
 }
 
-// 25: the adapters that the sheet lists, in the place of another.
-pub fn adapters(sheet: &[u8], words: &[u32], f: Fault) {
+// 25: the adapters that the sheet lists for a party, in the place of another.
+pub fn listed(sheet: &[u8], party: u8, adapter: u32) {
     let table = b"_ the sheet lists the adapters %M0: write one of these
 0 the sheet lists no adapter: leave it out
 1 the sheet lists only adapter %M0: write this one";
     let mut marks = [0u8; 256];
     sheets::mark_adapters(sheet, &mut marks, true);
-    for_party(sheet, f.call.party);
+    for_party(sheet, party);
     by_count(&marks, 0, table);
-    or_add(sheet, f.call.party, tokens::record::number(words, f.token));
+    or_add(sheet, party, adapter);
+}
+
+// The same of an adapter in a rule.
+pub fn adapters(sheet: &[u8], words: &[u32], f: Fault) {
+    listed(sheet, f.call.party, tokens::record::number(words, f.token));
 }
 
 // 53: the adapters that the party may name as its primary.
@@ -57,7 +62,7 @@ pub fn primaries(sheet: &[u8], f: Fault) {
 }
 
 // The rows of a kind that have a name, 1, or nearly have it, 2; of an adapter, 256 for any.
-fn asked(kind: u32, adapter: u32, name: u32) -> Question {
+pub fn asked(kind: u32, adapter: u32, name: u32) -> Question {
     Question {
         kind,
         adapter,
@@ -75,7 +80,7 @@ fn is_other(sheet: &[u8], name: &[u8], kind: u32, other: u32) -> bool {
 }
 
 // The first other kind of which a row has the name; 0 where there is none.
-fn other_kind(sheet: &[u8], name: &[u8], kind: u32) -> u32 {
+pub fn other_kind(sheet: &[u8], name: &[u8], kind: u32) -> u32 {
     if is_other(sheet, name, kind, 1) {
         return 1;
     }
@@ -92,7 +97,7 @@ fn other_kind(sheet: &[u8], name: &[u8], kind: u32) -> u32 {
 }
 
 // Another kind has the name.
-fn of_other_kind(other: u32) {
+pub fn of_other_kind(other: u32) {
     let table = b"_ -
 1 the sheet has a lamp of this name: write `lamp`, or mend the name
 2 the sheet has a group of this name: write `group`, or mend the name
@@ -102,7 +107,7 @@ fn of_other_kind(other: u32) {
 }
 
 // A row has nearly the name, unless that is empty.
-fn nearly(near: &[u8]) {
+pub fn nearly(near: &[u8]) {
     if near.len() == 0 {
         out::bytes(b"mend the name, or add a row with it to the sheet");
         return;
@@ -131,16 +136,21 @@ fn who_has(marks: &[u8]) {
     say::set(marks, 0, b"adapters %M0 have it: write ");
 }
 
-// If an adapter in a set is not listed, so that it cannot be written yet: what to add to the sheet. The listed ones leave the set.
-fn to_list(sheet: &[u8], marks: &mut [u8]) {
+// If an adapter in a set is not listed, so that it cannot be written yet: what to add to the sheet, in a sentence. The listed ones leave the set.
+pub fn to_list(sheet: &[u8], marks: &mut [u8], sentence: &[u8]) {
     sheets::mark_adapters(sheet, marks, false);
     let k = marks::first(marks);
     if 255 < k {
         return;
     }
-    let n = text::place::held(k);
-    say::number(
-        n,
+    say::number(text::place::held(k), sentence);
+}
+
+// The same where it is written in a rule.
+fn to_list_in_rule(sheet: &[u8], marks: &mut [u8]) {
+    to_list(
+        sheet,
+        marks,
         b"; for adapter=%n0 the sheet needs the row adapter,%n0 first",
     );
 }
@@ -149,7 +159,7 @@ fn to_list(sheet: &[u8], marks: &mut [u8]) {
 fn to_list_one(sheet: &[u8], adapter: u32) {
     let mut marks = [0u8; 256];
     marks::set(&mut marks, adapter as usize, true);
-    to_list(sheet, &mut marks);
+    to_list_in_rule(sheet, &mut marks);
 }
 
 // 32 and 34: the adapters whose rows have the name.
@@ -163,11 +173,11 @@ fn elsewhere(sheet: &[u8], name: &[u8], kind: u32) {
         adapter: 256,
     };
     items::show(name, w, &marks, b" or ");
-    to_list(sheet, &mut marks);
+    to_list_in_rule(sheet, &mut marks);
 }
 
 // The adapter of the rows that have the name in scope, which are all on one.
-fn one_adapter(sheet: &[u8], name: &[u8], kind: u32, scope: u32) -> u32 {
+pub fn one_adapter(sheet: &[u8], name: &[u8], kind: u32, scope: u32) -> u32 {
     if scope != 256 {
         return scope;
     }

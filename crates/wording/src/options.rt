@@ -1,4 +1,4 @@
-// The options of `rules check`, `rules join` and `rules write`, which stand before their files.
+// The options of the commands that take a name sheet. They stand before the files.
 
 // What stands for a number where none from 0 to 255 is given.
 pub const NONE: u32 = 256;
@@ -18,8 +18,11 @@ const TWICE: u32 = 5;
 // The archive loader's habit and the shop profile are asked for together.
 const BOTH: u32 = 6;
 
-// One of these is asked for where two rules are joined.
+// One of these is asked for where rules are read by the default call alone.
 const NO_HABIT: u32 = 10;
+
+// What is about rules is asked for where none is read.
+const NO_RULE: u32 = 14;
 
 // What the options say, NONE for a number that is not given, and the index of the word that names the file of topics; the index of the word behind them; and
 // what is wrong with them, 0 for nothing.
@@ -203,13 +206,24 @@ pub fn before_files(count: usize, files: usize, wrong: u32) -> Options {
     refused(o, wrong)
 }
 
-// The options of joining, which reads both rules by the default call.
+// The options of a command that reads rules by the default call.
 pub fn without_habit(o: Options) -> Options {
     if o.wrong != 0 {
         return o;
     }
     if o.archive || o.shop {
         return refused(o, NO_HABIT);
+    }
+    o
+}
+
+// The options of a command that reads no rule.
+pub fn without_rule(o: Options) -> Options {
+    if o.wrong != 0 {
+        return o;
+    }
+    if o.archive || o.shop || o.topics != NO_TOPICS {
+        return refused(o, NO_RULE);
     }
     o
 }

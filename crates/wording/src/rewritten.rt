@@ -1,4 +1,5 @@
 // A rule and the text that is written for it, compared: what was left out, and what is written in one form. Both have so many tokens, whose records are lent.
+use crate::archive;
 use crate::aside;
 use crate::marks;
 use crate::split;
@@ -285,8 +286,9 @@ fn mark_order(marks: &mut [u8]) {
     marks::set(marks, INPUTS, true);
 }
 
-// How many comments were left out, if any were.
-fn of_comments(n: u32) {
+// How many comments of a rule were left out, if any were.
+pub fn of_comments(rule: &[u8]) {
+    let n = comments(rule);
     if n == 0 {
         return;
     }
@@ -312,10 +314,43 @@ pub fn show(
     mark(rule, rule_words, m, written, written_words, n, &mut marks);
     mark_order(&mut marks);
     marks::set(&mut marks, LAYOUT, !is_laid_out(rule, rule_words, m));
-    of_comments(comments(rule));
+    of_comments(rule);
     lines(&marks);
     if marks::count(&marks) == 0 {
         aside::bytes(b"nothing is left out: the rule was in this form\n");
     }
     marks::has(&marks, NAMES)
+}
+
+// Are the names in rows of the archive those that stand in the rule, one by one?
+fn has_names(rule: &[u8], words: &[u32], count: usize, rows: &[u8]) -> bool {
+    let mut i = next(rule, words, count, 0, NAMES);
+    let mut at = 0;
+    let mut left = count;
+    while left > 0 {
+        if rows.len() <= at {
+            return true;
+        }
+        if count <= i {
+            return false;
+        }
+        let name = archive::field(split::line_at(rows, at), archive::NAME);
+        if !text::part::same(record::bytes(rule, words, i), name) {
+            return false;
+        }
+        i = next(rule, words, count, i + 1, NAMES);
+        at = split::next_line(rows, at);
+        left -= 1;
+    }
+    true
+}
+
+// Says what was left out of a rule for which rows of the archive were made, and if they have other names.
+pub fn show_rows(rule: &[u8], words: &[u32], count: usize, rows: &[u8]) {
+    of_comments(rule);
+    if !has_names(rule, words, count, rows) {
+        aside::bytes(
+            b"in one form: names; the first on the sheet that fits stands for an id or another name\n",
+        );
+    }
 }

@@ -42,7 +42,7 @@ fn is_row(l: &[u8], q: Question) -> bool {
 }
 
 // Is the line a row that was asked for?
-fn fits(l: &[u8], q: Question, name: &[u8]) -> bool {
+pub fn fits(l: &[u8], q: Question, name: &[u8]) -> bool {
     if !is_row(l, q) {
         return false;
     }
@@ -56,7 +56,7 @@ fn fits(l: &[u8], q: Question, name: &[u8]) -> bool {
 }
 
 // Where the first row begins that was asked for; the length where there is none.
-fn find(s: &[u8], q: Question, name: &[u8]) -> usize {
+pub fn find(s: &[u8], q: Question, name: &[u8]) -> usize {
     let mut at = 0;
     let mut n: u32 = 0;
     while n < 513 {

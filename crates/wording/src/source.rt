@@ -27,6 +27,22 @@ pub fn line_of(text: &[u8], line: u32) -> &[u8] {
     l
 }
 
+// The column of an offset in a line, counted in characters from 1.
+pub fn column(l: &[u8], at: usize) -> u32 {
+    let mut n: u32 = 1;
+    let mut i = 0;
+    let mut left = l.len();
+    while left > 0 {
+        if at <= i {
+            return n;
+        }
+        i = out::behind(l, i);
+        n = text::place::count_up(n);
+        left -= 1;
+    }
+    n
+}
+
 // How many characters are left out at the front of a line, so that a column is shown.
 fn left_out(l: &[u8], column: usize) -> usize {
     if l.len() <= out::skip(l, 0, 100) {

@@ -32,7 +32,7 @@ pub fn next(s: &[u8], at: usize, separator: u8) -> usize {
 }
 
 // Where piece k begins, from 0 on; the length where there is none.
-fn start(s: &[u8], separator: u8, k: usize) -> usize {
+pub fn start(s: &[u8], separator: u8, k: usize) -> usize {
     let mut at = 0;
     let mut left = k;
     while left > 0 {

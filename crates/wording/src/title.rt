@@ -30,20 +30,25 @@ fn none_of_party(kind: u32, party: u8) {
     );
 }
 
-// 31 to 34: a kind, an adapter and how many there are.
-fn of_name(text: &[u8], sheet: &[u8], words: &[u32], f: Fault) {
+// 31 to 34 of a kind and an adapter, by the number and its detail, for a party.
+pub fn of_named(sheet: &[u8], number: u32, kind: u32, adapter: u32, detail: u32, party: u8) {
     let table = b"_ %n2 %K0 on several adapters have this name
 31 none of the %K0 on the sheet has this name
 32 none of the %K0 of adapter %n1 has this name, but one of another adapter has it
 33 %n2 %K0 of one adapter have this name";
-    let kind = reference::kind(text, words, f.token);
-    if f.number == 31 && seen::is_shared(sheet, f.call.party) {
-        none_of_party(kind, f.call.party);
+    if number == 31 && seen::is_shared(sheet, party) {
+        none_of_party(kind, party);
         return;
     }
+    let row = [kind, adapter, detail];
+    say::numbers(&row, split::numbered(table, number));
+}
+
+// The same of a name in a rule.
+fn of_name(text: &[u8], sheet: &[u8], words: &[u32], f: Fault) {
+    let kind = reference::kind(text, words, f.token);
     let adapter = reference::adapter(text, words, f.count, f.token);
-    let row = [kind, adapter, f.detail];
-    say::numbers(&row, split::numbered(table, f.number));
+    of_named(sheet, f.number, kind, adapter, f.detail, f.call.party);
 }
 
 // 25 and 53, where the adapter is not the party's.
@@ -53,13 +58,12 @@ fn not_own(adapter: u32, party: u8) {
 }
 
 // 25 for an adapter of the party's, which only lacks a row, or for another.
-fn not_listed(sheet: &[u8], words: &[u32], f: Fault) {
-    let adapter = tokens::record::number(words, f.token);
-    if seen::is_own(sheet, f.call.party, adapter) {
+pub fn of_unlisted(sheet: &[u8], adapter: u32, party: u8) {
+    if seen::is_own(sheet, party, adapter) {
         out::bytes(b"this adapter is not listed on the sheet");
         return;
     }
-    not_own(adapter, f.call.party);
+    not_own(adapter, party);
 }
 
 // By the number of the refusal.
@@ -106,7 +110,8 @@ fn of_form(number: u32) {
 // 25, 31 to 34 and 53, which are about what the party sees of the sheet.
 fn of_sheet(text: &[u8], sheet: &[u8], words: &[u32], f: Fault) {
     if f.number == 25 {
-        not_listed(sheet, words, f);
+        let adapter = tokens::record::number(words, f.token);
+        of_unlisted(sheet, adapter, f.call.party);
         return;
     }
     if f.number == 53 {

@@ -1,6 +1,6 @@
 //! A `join` line of the replay format: two texts whose rules are to be joined (document 02 §3).
 
-use crate::{body, byte, number, size, Case, Habit, Next, Settings, MOST_BYTES, MOST_WORDS};
+use crate::{blocks, byte, number, size, write_blocks, Case, Habit, Next, Settings, MOST_WORDS};
 use std::io::{self, BufRead, Write};
 
 #[derive(Debug, Clone, PartialEq, Eq)]
@@ -35,26 +35,14 @@ impl Join {
 pub(crate) fn read(input: &mut impl BufRead, fields: [&str; 9]) -> io::Result<Next> {
     let [id, first, second, party, primary, lengths @ ..] = fields;
     let header = || Some((number(id)?, [size(first, MOST_WORDS)?, size(second, MOST_WORDS)?], byte(party)?, byte(primary)?));
-    let lengths = lengths.map(|length| size(length, MOST_BYTES));
-    let (Some((id, words, party, primary)), [Some(one), Some(two), Some(sheet), Some(topics)]) = (header(), lengths) else {
-        return Ok(Next::Bad);
-    };
-    let mut blocks = Vec::new();
-    for length in [one, two, sheet, topics] {
-        let Some(bytes) = body(input, length)? else { return Ok(Next::Bad) };
-        blocks.push(bytes);
-    }
-    let [one, two, sheet, topics] = <[Vec<u8>; 4]>::try_from(blocks).expect("four blocks were read");
+    let Some((id, words, party, primary)) = header() else { return Ok(Next::Bad) };
+    let Some([one, two, sheet, topics]) = blocks(input, lengths)? else { return Ok(Next::Bad) };
     Ok(Next::Join(Join { id, words, party, primary, texts: [one, two], sheet, topics }))
 }
 
 pub fn write_join(out: &mut impl Write, join: &Join) -> io::Result<()> {
     writeln!(out, "{}", join.first_line())?;
-    for bytes in [&join.texts[0], &join.texts[1], &join.sheet, &join.topics] {
-        out.write_all(bytes)?;
-        out.write_all(b"\n")?;
-    }
-    Ok(())
+    write_blocks(out, &[&join.texts[0], &join.texts[1], &join.sheet, &join.topics])
 }
 
 #[cfg(test)]

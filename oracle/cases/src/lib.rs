@@ -1,16 +1,20 @@
 //! A case of the replay format (docs/REPLAY.md): what one call of the reader is given.
 
 mod chain;
+mod conversion;
 mod join;
 mod lines;
+mod lists;
 mod settings;
 mod writing;
 
 pub use chain::{pieces, write_start, written, Start, MOST_PIECES, VOCABULARY};
+pub use conversion::{write_conversion, Conversion, Direction};
 pub use join::{write_join, Join};
 pub use lines::{fields, lines};
+pub use lists::{Flat, List, Row, ENTRY, ROWS};
 pub use settings::{own_primary, Habit, Settings};
-pub use writing::{write_writing, Flat, List, Row, Writing, ENTRY, ROWS};
+pub use writing::{write_writing, Writing};
 
 use std::io::{self, BufRead, Write};
 
@@ -79,6 +83,12 @@ impl Case {
     }
 }
 
+/// The default call of a party, without topics, with the least buffer that is enough.
+fn default_call(id: u64, party: u8, primary: u8, text: impl Into<Vec<u8>>, sheet: &[u8]) -> Case {
+    let settings = Settings { habit: Habit::Rule, party, primary, topics: Vec::new() };
+    Case { settings: Some(settings), ..Case::new(id, LEAST_WORDS, text, sheet) }
+}
+
 /// The most tokens of a text.
 pub const MOST_TOKENS: usize = 1_024;
 /// Words of one token record: kind, number, start, length, place (document 02 §5).
@@ -121,6 +131,8 @@ pub enum Next {
     Join(Join),
     /// A `write` line (document 02 §7).
     Writing(Box<Writing>),
+    /// A `rows` or a `back` line (document 02 §10).
+    Conversion(Conversion),
     End,
     /// The input is not in the replay format.
     Bad,
@@ -175,6 +187,25 @@ fn body(input: &mut impl BufRead, length: usize) -> io::Result<Option<Vec<u8>>> 
     }
 }
 
+/// The blocks of the lengths that these fields name; nothing where a field is no length or a block is not there as it should be.
+fn blocks<const N: usize>(input: &mut impl BufRead, lengths: [&str; N]) -> io::Result<Option<[Vec<u8>; N]>> {
+    let mut blocks = [const { Vec::new() }; N];
+    for (block, length) in blocks.iter_mut().zip(lengths) {
+        let Some(length) = size(length, MOST_BYTES) else { return Ok(None) };
+        let Some(bytes) = body(input, length)? else { return Ok(None) };
+        *block = bytes;
+    }
+    Ok(Some(blocks))
+}
+
+/// Each with an LF behind it.
+fn write_blocks(out: &mut impl Write, blocks: &[&[u8]]) -> io::Result<()> {
+    blocks.iter().try_for_each(|bytes| {
+        out.write_all(bytes)?;
+        out.write_all(b"\n")
+    })
+}
+
 pub fn read_case(input: &mut impl BufRead) -> io::Result<Next> {
     let mut line = Vec::new();
     if input.read_until(b'\n', &mut line)? == 0 {
@@ -186,6 +217,8 @@ pub fn read_case(input: &mut impl BufRead) -> io::Result<Next> {
         ["next", id, size, count] => return chain::read(input, id, size, count),
         ["join", ref fields @ ..] => return <[&str; 9]>::try_from(fields).map_or(Ok(Next::Bad), |fields| join::read(input, fields)),
         ["write", ref fields @ ..] => return <[&str; 7]>::try_from(fields).map_or(Ok(Next::Bad), |fields| writing::read(input, fields)),
+        ["rows", ref fields @ ..] => return <[&str; 5]>::try_from(fields).map_or(Ok(Next::Bad), |fields| conversion::read_rows(input, fields)),
+        ["back", ref fields @ ..] => return <[&str; 5]>::try_from(fields).map_or(Ok(Next::Bad), |fields| conversion::read_back(input, fields)),
         _ => {}
     }
     let Some(Header { mut case, text, sheet, topics }) = header(line) else { return Ok(Next::Bad) };
@@ -213,16 +246,12 @@ pub fn first_line(case: &Case) -> String {
 
 pub fn write_case(out: &mut impl Write, case: &Case) -> io::Result<()> {
     writeln!(out, "{}", first_line(case))?;
-    let topics = case.settings.as_ref().map(|settings| &settings.topics);
-    for bytes in [&case.text, &case.sheet].into_iter().chain(topics) {
-        out.write_all(bytes)?;
-        out.write_all(b"\n")?;
-    }
-    Ok(())
+    write_blocks(out, &[&case.text, &case.sheet])?;
+    case.settings.as_ref().map_or(Ok(()), |settings| write_blocks(out, &[&settings.topics]))
 }
 
-/// Answers every case of `input`, every start of a chain, every join and every two lists to be written on `out`, as the replay format
-/// orders it.
+/// Answers every case of `input`, every start of a chain, every join, every two lists to be written and every conversion on `out`, as the
+/// replay format orders it.
 pub fn replay(
     input: &mut impl BufRead,
     out: &mut impl Write,
@@ -230,6 +259,7 @@ pub fn replay(
     next: impl Fn(&Start) -> String,
     join: impl Fn(&Join) -> String,
     write: impl Fn(&Writing) -> String,
+    convert: impl Fn(&Conversion) -> String,
 ) -> io::Result<()> {
     loop {
         match read_case(input)? {
@@ -237,6 +267,7 @@ pub fn replay(
             Next::Chain(start) => out.write_all(next(&start).as_bytes())?,
             Next::Join(two) => out.write_all(join(&two).as_bytes())?,
             Next::Writing(lists) => out.write_all(write(&lists).as_bytes())?,
+            Next::Conversion(conversion) => out.write_all(convert(&conversion).as_bytes())?,
             Next::End => return Ok(()),
             Next::Bad => return out.write_all(b"bad input\n"),
         }

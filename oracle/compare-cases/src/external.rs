@@ -1,6 +1,6 @@
 //! A replay program, fed through pipes.
 
-use cases::{write_case, write_join, write_writing, Case, Join, Writing};
+use cases::{write_case, Case};
 use std::io::{self, BufWriter, Read};
 use std::path::PathBuf;
 use std::process::{Child, ChildStdin, Command, Stdio};
@@ -15,55 +15,36 @@ pub struct External {
 }
 
 /// The program's input.
-type Input = BufWriter<ChildStdin>;
+pub type Input = BufWriter<ChildStdin>;
 
 impl External {
     /// One answer for each case, in order; an empty one where the program gave none.
     pub fn answers(&self, cases: &[Case]) -> io::Result<Vec<String>> {
-        self.answers_to(cases.len(), |input| cases.iter().try_for_each(|case| write_case(input, case)))
-    }
-
-    /// The same for joins.
-    pub fn joined(&self, joins: &[Join]) -> io::Result<Vec<String>> {
-        self.answers_to(joins.len(), |input| joins.iter().try_for_each(|join| write_join(input, join)))
-    }
-
-    /// And for lists to be written.
-    pub fn written(&self, writings: &[Writing]) -> io::Result<Vec<String>> {
-        self.answers_to(writings.len(), |input| writings.iter().try_for_each(|writing| write_writing(input, writing)))
+        self.answers_to(cases, write_case)
     }
 
     /// The answer to one case alone.
     pub fn answer(&self, case: &Case) -> String {
-        only(self.answers(std::slice::from_ref(case)))
+        self.answer_to(case, write_case)
     }
 
-    /// The answer to one join alone.
-    pub fn joined_alone(&self, join: &Join) -> String {
-        only(self.joined(std::slice::from_ref(join)))
+    /// The answer to one line alone, which `write` writes.
+    pub fn answer_to<L: Sync>(&self, line: &L, write: fn(&mut Input, &L) -> io::Result<()>) -> String {
+        match self.answers_to(std::slice::from_ref(line), write) {
+            Ok(mut answers) => answers.pop().unwrap_or_default(),
+            Err(error) => format!("{error}\n"),
+        }
     }
 
-    /// The answer to one `write` line alone.
-    pub fn written_alone(&self, writing: &Writing) -> String {
-        only(self.written(std::slice::from_ref(writing)))
-    }
-
-    /// So many answers to what `write` writes. One process for each call, so that memory is bounded by the batch.
-    fn answers_to(&self, count: usize, write: impl FnOnce(&mut Input) -> io::Result<()> + Send) -> io::Result<Vec<String>> {
+    /// One answer for each of these lines, in order. One process for each call, so that memory is bounded by the batch.
+    pub fn answers_to<L: Sync>(&self, lines: &[L], write: fn(&mut Input, &L) -> io::Result<()>) -> io::Result<Vec<String>> {
         let mut child = Command::new(&self.path).stdin(Stdio::piped()).stdout(Stdio::piped()).spawn()?;
-        let output = exchange(&mut child, write);
+        let output = exchange(&mut child, |input| lines.iter().try_for_each(|line| write(input, line)));
         if output.is_err() {
             let _ = child.kill();
         }
         child.wait()?;
-        Ok(split_answers(&String::from_utf8_lossy(&output?), count))
-    }
-}
-
-fn only(answers: io::Result<Vec<String>>) -> String {
-    match answers {
-        Ok(mut answers) => answers.pop().unwrap_or_default(),
-        Err(error) => format!("{error}\n"),
+        Ok(split_answers(&String::from_utf8_lossy(&output?), lines.len()))
     }
 }
 

@@ -2,10 +2,12 @@
 //! the cases covered.
 
 pub mod batches;
+pub mod conversions;
 mod days;
 mod durations;
 pub mod external;
 pub mod features;
+pub mod held;
 pub mod joins;
 mod layout;
 pub mod options;

@@ -1,10 +1,12 @@
 //! Compares the supplied Rust, the second reader and a replay program on generated cases. Exit 0 means that they
 //! agree and that everything was covered, 1 that not, 2 that the run itself failed.
 
-use cases::{first_line, write_case, write_join, write_writing, Case, Join, List, Writing};
-use compare_cases::batches::Counts;
+use cases::{first_line, write_case, write_conversion, write_join, write_writing, Case, Conversion, Direction, Flat, Join, List, Writing};
+use compare_cases::batches::{Counts, Found};
+use compare_cases::conversions::{coverage as of_conversions, run as converting};
 use compare_cases::external::External;
 use compare_cases::features::Coverage;
+use compare_cases::held::{self, Held};
 use compare_cases::joins::{coverage as of_joins, run as joining};
 use compare_cases::options::{self, Options, Stored, Vectors};
 use compare_cases::readers::{quiet_panics, Other, Readers};
@@ -45,7 +47,7 @@ fn plan<'a>(options: &Options, make: &'a (dyn Fn(u64) -> Case + Sync), count: u6
     Plan { make, count, batch: options.batch, threads: options.threads, progress: true }
 }
 
-/// The generated cases, joins and lists, then the exhaustive cases; true if nothing differed and nothing was left uncovered.
+/// The generated cases, joins, lists and conversions, then the exhaustive cases; true if nothing differed and nothing was left uncovered.
 fn compare(options: &Options, readers: &Readers) -> io::Result<bool> {
     let mut coverage = Coverage::default();
     let generated = |index| generate::case(options.seed, options.from + index);
@@ -55,6 +57,7 @@ fn compare(options: &Options, readers: &Readers) -> io::Result<bool> {
     }
     let Some(of_joins) = compare_joins(options, readers)? else { return Ok(false) };
     let Some(of_writings) = compare_writings(options, readers)? else { return Ok(false) };
+    let Some(of_conversions) = compare_conversions(options, readers)? else { return Ok(false) };
     for length in 0..=options.exhaustive.unwrap_or(0) {
         let count = if options.exhaustive.is_some() { generate::exhaustive_count(length) } else { 0 };
         let make = |index| generate::exhaustive_case(length, index);
@@ -66,7 +69,7 @@ fn compare(options: &Options, readers: &Readers) -> io::Result<bool> {
         }
     }
     let mut zeros = Vec::new();
-    if coverage.cases > 0 || of_joins.joins + of_writings.writings == 0 {
+    if coverage.cases > 0 || of_joins.joins + of_writings.writings + of_conversions.conversions() == 0 {
         coverage.print(&mut io::stdout())?;
         zeros.extend(coverage.zeros());
     }
@@ -77,6 +80,10 @@ fn compare(options: &Options, readers: &Readers) -> io::Result<bool> {
     if of_writings.writings > 0 {
         of_writings.print(&mut io::stdout())?;
         zeros.extend(of_writings.zeros());
+    }
+    if of_conversions.conversions() > 0 {
+        of_conversions.print(&mut io::stdout())?;
+        zeros.extend(of_conversions.zeros());
     }
     if !zeros.is_empty() {
         println!("not covered: {}", zeros.join(", "));
@@ -96,9 +103,9 @@ fn compare_joins(options: &Options, readers: &Readers) -> io::Result<Option<of_j
 fn joins_part(options: &Options, readers: &Readers, make: &(dyn Fn(u64) -> Join + Sync), count: u64) -> io::Result<Option<of_joins::Coverage>> {
     let plan = Plan { make, count, batch: options.batch, threads: options.threads, progress: true };
     let readers = joining::Readers { join: &second::join, call: readers.second, replay: readers.replay.clone() };
-    match joining::run(&plan, &readers)? {
-        joining::Outcome::Same(coverage) => Ok(Some(coverage)),
-        joining::Outcome::Different(difference) => {
+    match held::run(&plan, &readers)? {
+        Found::Same(coverage) => Ok(Some(coverage)),
+        Found::Different(difference) => {
             report_join(options, &readers, &difference)?;
             Ok(None)
         }
@@ -107,24 +114,24 @@ fn joins_part(options: &Options, readers: &Readers, make: &(dyn Fn(u64) -> Join 
 
 /// Prints the smallest join found on which two readers differ, and both answers.
 fn report_join(options: &Options, readers: &joining::Readers, difference: &joining::Difference) -> io::Result<()> {
-    println!("{} differs from the second reader on join {}; making it smaller", difference.other.name(), difference.join.id);
+    println!("{} differs from the second reader on join {}; making it smaller", difference.other.name(), difference.line.id);
     if !difference.alone {
         println!("on that join alone it does not: those before it in the batch matter");
     }
-    let small = joining::smallest(difference, readers);
-    let Join { texts, sheet, topics, .. } = &small.join;
-    println!("{}", small.join.first_line());
+    let small = held::smallest(difference, readers);
+    let Join { texts, sheet, topics, .. } = &small.line;
+    println!("{}", small.line.first_line());
     println!("{}\n{}\n{}", texts[0].escape_ascii(), texts[1].escape_ascii(), sheet.escape_ascii());
     if !topics.is_empty() {
         println!("{}", topics.escape_ascii());
     }
     if small.other == joining::Other::Beside {
-        println!("beside it\n{}", joining::beside(&small.join).sheet.escape_ascii());
+        println!("beside it\n{}", joining::beside(&small.line).sheet.escape_ascii());
     }
-    println!("--- the second reader\n{}", readers.join(&small.join));
+    println!("--- the second reader\n{}", readers.answer(&small.line));
     println!("--- {}\n{}", small.other.name(), small.answer);
     let Some(path) = &options.smallest else { return Ok(()) };
-    write_join(&mut File::create(path)?, &small.join)
+    write_join(&mut File::create(path)?, &small.line)
 }
 
 /// The lists to be written; nothing if some differ.
@@ -147,9 +154,9 @@ fn writings_part(
     let Readers { second: call, in_domain, supplied, .. } = *readers;
     let replay = readers.replay.clone();
     let readers = writing::Readers { write: &second::write, call, read: &second::flat_of_call, in_domain, supplied, replay };
-    match writing::run(&plan, &readers)? {
-        writing::Outcome::Same(coverage) => Ok(Some(coverage)),
-        writing::Outcome::Different(difference) => {
+    match held::run(&plan, &readers)? {
+        Found::Same(coverage) => Ok(Some(coverage)),
+        Found::Different(difference) => {
             report_writing(options, &readers, &difference)?;
             Ok(None)
         }
@@ -158,24 +165,80 @@ fn writings_part(
 
 /// Prints the smallest lists found on which two readers differ, and both answers.
 fn report_writing(options: &Options, readers: &writing::Readers, difference: &writing::Difference) -> io::Result<()> {
-    println!("{} differs from the second reader on lists {}; making them smaller", difference.other.name(), difference.writing.id);
+    println!("{} differs from the second reader on lists {}; making them smaller", difference.other.name(), difference.line.id);
     if !difference.alone {
         println!("on these lists alone it does not: those before them in the batch matter");
     }
-    let small = writing::smallest(difference, readers);
-    let Writing { texts, sheet, lists, .. } = &small.writing;
-    println!("{}", small.writing.first_line());
-    println!("{}\n{}\n{}\n{:?}", texts[0].escape_ascii(), texts[1].escape_ascii(), sheet.escape_ascii(), lists.counts);
+    let small = held::smallest(difference, readers);
+    let Writing { texts, sheet, lists, .. } = &small.line;
+    println!("{}", small.line.first_line());
+    println!("{}\n{}\n{}", texts[0].escape_ascii(), texts[1].escape_ascii(), sheet.escape_ascii());
+    print_lists(lists);
+    if small.other == writing::Other::Beside {
+        println!("beside it\n{}", writing::beside(&small.line).sheet.escape_ascii());
+    }
+    println!("--- the second reader\n{}", readers.answer(&small.line));
+    println!("--- {}\n{}", small.other.name(), small.answer);
+    let Some(path) = &options.smallest else { return Ok(()) };
+    write_writing(&mut File::create(path)?, &small.line)
+}
+
+/// Prints the counts and the rows in use.
+fn print_lists(lists: &Flat) {
+    println!("{:?}", lists.counts);
     for (list, letter) in List::BOTH.into_iter().zip(["T", "C"]) {
         lists.used(list).iter().for_each(|row| println!("{letter} {} {:?}", row.from, row.words));
     }
-    if small.other == writing::Other::Beside {
-        println!("beside it\n{}", writing::beside(&small.writing).sheet.escape_ascii());
+}
+
+/// The conversions; nothing if some differ.
+fn compare_conversions(options: &Options, readers: &Readers) -> io::Result<Option<of_conversions::Coverage>> {
+    let make = |index| generate::conversion(options.seed, options.from + index);
+    if options.conversions > 0 {
+        eprintln!("{} conversions of seed {} from {}", options.conversions, options.seed, options.from);
     }
-    println!("--- the second reader\n{}", readers.write(&small.writing));
+    conversions_part(options, readers, &make, options.conversions)
+}
+
+fn conversions_part(
+    options: &Options,
+    readers: &Readers,
+    make: &(dyn Fn(u64) -> Conversion + Sync),
+    count: u64,
+) -> io::Result<Option<of_conversions::Coverage>> {
+    let plan = Plan { make, count, batch: options.batch, threads: options.threads, progress: true };
+    let readers = converting::Readers { convert: &second::convert, call: readers.second, replay: readers.replay.clone() };
+    match held::run(&plan, &readers)? {
+        Found::Same(coverage) => Ok(Some(coverage)),
+        Found::Different(difference) => {
+            report_conversion(options, &readers, &difference)?;
+            Ok(None)
+        }
+    }
+}
+
+/// Prints the smallest conversion found on which two readers differ, and both answers.
+fn report_conversion(options: &Options, readers: &converting::Readers, difference: &converting::Difference) -> io::Result<()> {
+    println!("{} differs from the second reader on conversion {}; making it smaller", difference.other.name(), difference.line.id);
+    if !difference.alone {
+        println!("on that conversion alone it does not: those before it in the batch matter");
+    }
+    let small = held::smallest(difference, readers);
+    println!("{}", small.line.first_line());
+    if let Direction::Forward { rows } = &small.line.direction {
+        println!("{}", rows.escape_ascii());
+    }
+    println!("{}", small.line.sheet.escape_ascii());
+    if let Direction::Back { lists, .. } = &small.line.direction {
+        print_lists(lists);
+    }
+    if small.other == converting::Other::Beside {
+        println!("beside it\n{}", converting::beside(&small.line).sheet.escape_ascii());
+    }
+    println!("--- the second reader\n{}", readers.answer(&small.line));
     println!("--- {}\n{}", small.other.name(), small.answer);
     let Some(path) = &options.smallest else { return Ok(()) };
-    write_writing(&mut File::create(path)?, &small.writing)
+    write_conversion(&mut File::create(path)?, &small.line)
 }
 
 fn part(options: &Options, readers: &Readers, plan: &Plan, coverage: &mut Coverage) -> io::Result<bool> {
@@ -239,19 +302,25 @@ fn store(options: &Options, chosen: &[Case], input: &str, output: &str, readers:
     if !part(options, readers, &plan(options, &again, chosen.len() as u64), &mut Coverage::default())? {
         return Ok(false);
     }
-    let starts = generate::chains::starts(second::chains());
-    let behind = vectors::Behind { starts, joins: generate::stored_joins(), writings: generate::stored_writings() };
-    let vectors::Behind { starts, joins, writings } = &behind;
+    let behind = vectors::Behind {
+        starts: generate::chains::starts(second::chains()),
+        joins: generate::stored_joins(),
+        writings: generate::stored_writings(),
+        conversions: generate::stored_conversions(),
+    };
+    let vectors::Behind { starts, joins, writings, conversions } = &behind;
     let join_again = |index| joins[index as usize].clone();
     let write_again = |index| writings[index as usize].clone();
+    let convert_again = |index| conversions[index as usize].clone();
     if joins_part(options, readers, &join_again, joins.len() as u64)?.is_none()
         || writings_part(options, readers, &write_again, writings.len() as u64)?.is_none()
+        || conversions_part(options, readers, &convert_again, conversions.len() as u64)?.is_none()
     {
         return Ok(false);
     }
     vectors::write(chosen, &behind, input, output, readers.second)?;
-    let [starts, joins, writings] = [starts.len(), joins.len(), writings.len()];
-    println!("{} cases written, {starts} starts of chains, {joins} joins and {writings} lists to be written", chosen.len());
+    let [starts, joins, writings, conversions] = [starts.len(), joins.len(), writings.len(), conversions.len()];
+    println!("{} cases written, {starts} starts of chains, {joins} joins, {writings} lists to be written and {conversions} conversions", chosen.len());
     let short = vectors::short_of(chosen, readers.second);
     if !short.is_empty() {
         println!("too few cases for: {}", short.join(", "));

@@ -5,18 +5,19 @@ use std::path::PathBuf;
 pub const USAGE: &str = "compare-cases [options]
   --cases N          compare N generated cases (default 100000)
   --seed S           the seed they follow from (default 1)
-  --from INDEX       the first case's index (default 0), and those of the first join and the first lists
+  --from INDEX       the first case's index (default 0), and those of the first join, lists and conversion
   --exhaustive L     also every sequence of up to L pieces
   --joins N          also N joins of two texts (document 02 §3) of that seed
   --writings N       also N pairs of lists to be written (document 02 §7) of that seed
+  --conversions N    also N conversions of the previous owners' rows, one way or the other (document 02 §10), of that seed
   --replay PATH      also run this replay program on every case
   --batch B          cases held at once, and for one process of it (default 1000)
   --threads T        1 or 2 (default 1)
   --allow-zero       do not fail when something was not covered
   --smallest FILE    write the smallest differing case there as replay input
   --vectors K IN OUT choose about K of the N cases, and write them to IN and their answers to OUT
-  --extend IN OUT    put the cases of document 02's requests behind those in IN, then the starts of chains, the joins and the
-                     lists to be written, and write all answers to OUT";
+  --extend IN OUT    put the cases of document 02's requests behind those in IN, then the starts of chains, the joins, the lists
+                     to be written and the conversions, and write all answers to OUT";
 
 #[derive(Debug, Clone, PartialEq)]
 pub struct Vectors {
@@ -40,6 +41,7 @@ pub struct Options {
     pub exhaustive: Option<usize>,
     pub joins: u64,
     pub writings: u64,
+    pub conversions: u64,
     pub replay: Option<PathBuf>,
     pub batch: u64,
     pub threads: u64,
@@ -58,6 +60,7 @@ impl Default for Options {
             exhaustive: None,
             joins: 0,
             writings: 0,
+            conversions: 0,
             replay: None,
             batch: 1_000,
             threads: 1,
@@ -89,6 +92,7 @@ pub fn parse(words: impl IntoIterator<Item = String>) -> Result<Options, String>
             "--exhaustive" => options.exhaustive = Some(number(words.next(), &option)?.min(8) as usize),
             "--joins" => options.joins = number(words.next(), &option)?,
             "--writings" => options.writings = number(words.next(), &option)?,
+            "--conversions" => options.conversions = number(words.next(), &option)?,
             "--replay" => options.replay = Some(path(words.next(), &option)?.into()),
             "--batch" => options.batch = number(words.next(), &option)?.clamp(1, 10_000),
             "--threads" => options.threads = number(words.next(), &option)?.clamp(1, 2),

@@ -69,6 +69,13 @@ pub fn sorts(case: &Case, answer: &str) -> Vec<&'static str> {
     sorts
 }
 
+/// Whose an adapter is by a well-formed sheet: whether it is the party's, and whether it is listed.
+pub fn whose(sheet: &[u8], party: u8, adapter: &str) -> (bool, bool) {
+    let rows: Vec<Vec<&[u8]>> = lines(sheet).into_iter().map(fields).collect();
+    let of = rows.iter().find(|row| row[0] == b"party" && row[1] == adapter.as_bytes()).map_or(b"0".as_slice(), |row| row[2]);
+    (of == party.to_string().as_bytes(), rows.iter().any(|row| row[0] == b"adapter" && row[1] == adapter.as_bytes()))
+}
+
 /// What is said where every adapter is the party's.
 pub fn if_all_were_own(case: &Case) -> String {
     let lines = lines(&case.sheet);

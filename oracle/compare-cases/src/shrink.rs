@@ -1,7 +1,8 @@
 //! Making a case small while it still shows what it showed.
 
-use cases::{Case, Join, List, Row, Writing, ENTRY, LEAST_WORDS as USUAL_WORDS, ROWS};
+use cases::{Case, Conversion, Direction, Flat, Join, List, Row, Writing, ENTRY, LEAST_WORDS as USUAL_WORDS, ROWS};
 use generate::roles::{roles, Role};
+use std::collections::BTreeSet;
 
 type Split = fn(&[u8]) -> Vec<&[u8]>;
 
@@ -43,10 +44,7 @@ pub fn shrink(case: &Case, tries: usize, shows: &mut dyn FnMut(&Case) -> bool) -
 const PLAINER_JOINS: [fn(&Join) -> Join; 4] = [
     |join| Join { words: [USUAL_WORDS; 2], ..join.clone() },
     |join| Join { party: 0, primary: 0, ..join.clone() },
-    |join| {
-        let rows: Vec<&[u8]> = lines(&join.sheet).into_iter().filter(|row| !row.starts_with(b"party,")).collect();
-        Join { party: 0, primary: 0, sheet: rows.concat(), ..join.clone() }
-    },
+    |join| Join { party: 0, primary: 0, sheet: without_party_rows(&join.sheet), ..join.clone() },
     |join| Join { party: 0, primary: 0, sheet: b"primary,0\n".to_vec(), ..join.clone() },
 ];
 
@@ -95,10 +93,7 @@ pub fn shrink_join(join: &Join, tries: usize, shows: &mut dyn FnMut(&Join) -> bo
 const PLAINER_WRITINGS: [fn(&Writing) -> Writing; 4] = [
     |writing| Writing { size: USUAL_BYTES, ..writing.clone() },
     |writing| Writing { party: 0, primary: 0, ..writing.clone() },
-    |writing| {
-        let rows: Vec<&[u8]> = lines(&writing.sheet).into_iter().filter(|row| !row.starts_with(b"party,")).collect();
-        Writing { party: 0, primary: 0, sheet: rows.concat(), ..writing.clone() }
-    },
+    |writing| Writing { party: 0, primary: 0, sheet: without_party_rows(&writing.sheet), ..writing.clone() },
     |writing| Writing { party: 0, primary: 0, sheet: b"primary,0\n".to_vec(), ..writing.clone() },
 ];
 
@@ -112,37 +107,22 @@ pub fn shrink_writing(writing: &Writing, tries: usize, shows: &mut dyn FnMut(&Wr
         left = left.saturating_sub(1);
         left > 0 && shows(writing)
     };
-    let weight = |writing: &Writing| {
-        let words = List::BOTH.iter().flat_map(|list| writing.lists.rows(*list)).flat_map(|row| row.words).filter(|&word| word != 0).count();
-        writing.texts[0].len() + writing.texts[1].len() + writing.sheet.len() + words
-    };
+    let weight = |writing: &Writing| writing.texts[0].len() + writing.texts[1].len() + writing.sheet.len() + words_in(&writing.lists);
     let mut best = writing.clone();
     loop {
         let size = weight(&best);
-        let mut take = |best: &mut Writing, lighter: Writing| {
-            if lighter != *best && weight(&lighter) <= weight(best) && shows(&lighter) {
-                *best = lighter;
-            }
-        };
         for plainer in PLAINER_WRITINGS {
-            let lighter = plainer(&best);
-            take(&mut best, lighter);
-        }
-        for (list, at) in List::BOTH.into_iter().flat_map(|list| (0..ROWS).rev().map(move |at| (list, at))) {
-            let lighter = without_entry(&best, list, at);
-            take(&mut best, lighter);
-        }
-        let lighter = with_names_alone(&best);
-        take(&mut best, lighter);
-        for (list, row, at) in List::BOTH.into_iter().flat_map(|list| (0..ROWS * ENTRY).map(move |at| (list, at / ENTRY, at % ENTRY))) {
-            for word in [0, 1] {
-                let mut plainer = best.clone();
-                plainer.lists.rows_mut(list)[row].words[at] = word;
-                if best.lists.rows(list)[row].words[at] > word && shows(&plainer) {
-                    best = plainer;
-                }
+            let plainer = plainer(&best);
+            if plainer != best && weight(&plainer) <= weight(&best) && shows(&plainer) {
+                best = plainer;
             }
         }
+        best.lists = without_entries(&best.lists, &mut |lists| shows(&Writing { lists: *lists, ..best.clone() }));
+        let shorter = with_names_alone(&best);
+        if shorter != best && weight(&shorter) <= weight(&best) && shows(&shorter) {
+            best = shorter;
+        }
+        best.lists = with_plain_words(&best.lists, &mut |lists| shows(&Writing { lists: *lists, ..best.clone() }));
         for split in [lines as Split, bytes] {
             best.sheet = drop_pieces(&best.sheet, split, &mut |sheet| shows(&Writing { sheet: sheet.to_vec(), ..best.clone() }));
         }
@@ -182,17 +162,138 @@ fn with_names_alone(writing: &Writing) -> Writing {
     shorter
 }
 
+/// The words that are not 0.
+fn words_in(lists: &Flat) -> usize {
+    List::BOTH.iter().flat_map(|list| lists.rows(*list)).flat_map(|row| row.words).filter(|&word| word != 0).count()
+}
+
+/// The lists without the entries that need not be there.
+fn without_entries(lists: &Flat, shows: &mut dyn FnMut(&Flat) -> bool) -> Flat {
+    let mut best = *lists;
+    for (list, at) in List::BOTH.into_iter().flat_map(|list| (0..ROWS).rev().map(move |at| (list, at))) {
+        let fewer = without_entry(&best, list, at);
+        if fewer != best && shows(&fewer) {
+            best = fewer;
+        }
+    }
+    best
+}
+
 /// The lists without the entry in this row, if it is in use; else the row empty.
-fn without_entry(writing: &Writing, list: List, at: usize) -> Writing {
-    let mut fewer = writing.clone();
-    if at < writing.lists.used(list).len() {
-        fewer.lists.counts[list as usize] -= 1;
-        fewer.lists.rows_mut(list)[at..].rotate_left(1);
-        fewer.lists.rows_mut(list)[ROWS - 1] = Row::default();
+fn without_entry(lists: &Flat, list: List, at: usize) -> Flat {
+    let mut fewer = *lists;
+    if at < lists.used(list).len() {
+        fewer.counts[list as usize] -= 1;
+        fewer.rows_mut(list)[at..].rotate_left(1);
+        fewer.rows_mut(list)[ROWS - 1] = Row::default();
     } else {
-        fewer.lists.rows_mut(list)[at] = Row::default();
+        fewer.rows_mut(list)[at] = Row::default();
     }
     fewer
+}
+
+/// The lists with 0 or 1 in the place of words that may be these.
+fn with_plain_words(lists: &Flat, shows: &mut dyn FnMut(&Flat) -> bool) -> Flat {
+    let mut best = *lists;
+    for (list, row, at) in List::BOTH.into_iter().flat_map(|list| (0..ROWS * ENTRY).map(move |at| (list, at / ENTRY, at % ENTRY))) {
+        for word in [0, 1] {
+            let mut plainer = best;
+            plainer.rows_mut(list)[row].words[at] = word;
+            if best.rows(list)[row].words[at] > word && shows(&plainer) {
+                best = plainer;
+            }
+        }
+    }
+    best
+}
+
+/// Conversions that are easier to read, likewise.
+const PLAINER_CONVERSIONS: [fn(&Conversion) -> Conversion; 4] = [
+    |conversion| match &conversion.direction {
+        Direction::Forward { .. } => conversion.clone(),
+        Direction::Back { lists, .. } => back_with(conversion, USUAL_ROOM, lists),
+    },
+    |conversion| Conversion { party: 0, primary: 0, ..conversion.clone() },
+    |conversion| Conversion { party: 0, primary: 0, sheet: without_party_rows(&conversion.sheet), ..conversion.clone() },
+    |conversion| Conversion { party: 0, primary: 0, sheet: b"primary,0\n".to_vec(), ..conversion.clone() },
+];
+
+const USUAL_ROOM: usize = 512;
+
+fn back_with(conversion: &Conversion, size: usize, lists: &Flat) -> Conversion {
+    Conversion { direction: Direction::Back { size, lists: Box::new(*lists) }, ..conversion.clone() }
+}
+
+/// The same for a conversion: the rows or the lists, and the sheet.
+pub fn shrink_conversion(conversion: &Conversion, tries: usize, shows: &mut dyn FnMut(&Conversion) -> bool) -> Conversion {
+    let mut left = tries;
+    let mut shows = |conversion: &Conversion| {
+        left = left.saturating_sub(1);
+        left > 0 && shows(conversion)
+    };
+    let weight = |conversion: &Conversion| conversion.sheet.len() + match &conversion.direction {
+        Direction::Forward { rows } => rows.len(),
+        Direction::Back { lists, .. } => words_in(lists),
+    };
+    let mut best = conversion.clone();
+    loop {
+        let size = weight(&best);
+        for plainer in PLAINER_CONVERSIONS {
+            let plainer = plainer(&best);
+            if plainer != best && weight(&plainer) <= weight(&best) && shows(&plainer) {
+                best = plainer;
+            }
+        }
+        for (split, longest) in [(lines as Split, usize::MAX), (bytes, LONG)] {
+            // A sheet that must be long stays so.
+            if best.sheet.len() <= longest {
+                best.sheet = drop_pieces(&best.sheet, split, &mut |sheet| shows(&Conversion { sheet: sheet.to_vec(), ..best.clone() }));
+            }
+            if let Direction::Forward { rows } = &best.direction {
+                let rows = drop_pieces(rows, split, &mut |rows| shows(&best.of_rows(rows)));
+                best = best.of_rows(rows);
+            }
+        }
+        for name in names(&best.sheet) {
+            let shorter = with_short_name(&best, &name);
+            if shorter != best && shows(&shorter) {
+                best = shorter;
+            }
+        }
+        if let Direction::Back { size, lists } = &best.direction {
+            let fewer = without_entries(lists, &mut |lists| shows(&back_with(&best, *size, lists)));
+            let plainer = with_plain_words(&fewer, &mut |lists| shows(&back_with(&best, *size, lists)));
+            best = back_with(&best, *size, &plainer);
+        }
+        if weight(&best) == size {
+            return best;
+        }
+    }
+}
+
+/// The names of a sheet's rows, the last fields of four.
+fn names(sheet: &[u8]) -> BTreeSet<Vec<u8>> {
+    cases::lines(sheet).into_iter().filter_map(|line| cases::fields(line).get(3).map(|name| name.to_vec())).collect()
+}
+
+/// A conversion in which a name of more than one byte is a letter, in the sheet and in the rows.
+fn with_short_name(conversion: &Conversion, name: &[u8]) -> Conversion {
+    let known = names(&conversion.sheet);
+    let letter = (b'a'..=b'z').find(|letter| !known.contains(&[*letter][..]));
+    let Some(letter) = letter.filter(|_| name.len() > 1) else { return conversion.clone() };
+    let renamed = |bytes: &[u8], from: &[u8], to: &[u8]| lines(bytes).iter().flat_map(|line| {
+        let at = line.windows(from.len()).position(|part| part == from);
+        at.map_or(line.to_vec(), |at| [&line[..at], to, &line[at + from.len()..]].concat())
+    }).collect::<Vec<u8>>();
+    let short = [b",", &[letter][..]].concat();
+    let sheet = renamed(&conversion.sheet, &[b",", name].concat(), &short);
+    match &conversion.direction {
+        Direction::Forward { rows } => {
+            let rows = renamed(rows, &[b",", name, b","].concat(), &[&short[..], b","].concat());
+            Conversion { sheet, ..conversion.of_rows(rows) }
+        }
+        Direction::Back { .. } => Conversion { sheet, ..conversion.clone() },
+    }
 }
 
 /// The most conditions of a text.
@@ -227,6 +328,11 @@ pub fn shrink_text(text: &[u8], tries: usize, shows: &mut dyn FnMut(&[u8]) -> bo
     }
 }
 
+/// A sheet on which all adapters are party 0's.
+fn without_party_rows(sheet: &[u8]) -> Vec<u8> {
+    lines(sheet).into_iter().filter(|row| !row.starts_with(b"party,")).collect::<Vec<_>>().concat()
+}
+
 fn weight(case: &Case) -> usize {
     case.text.len() + case.sheet.len() + case.topics().len()
 }
@@ -249,8 +355,7 @@ fn without_settings(best: &mut Case, shows: &mut dyn FnMut(&Case) -> bool) {
 
 /// And one in which there is one party only, so that it need not be a `call` line.
 fn without_parties(best: &mut Case, shows: &mut dyn FnMut(&Case) -> bool) {
-    let others: Vec<&[u8]> = lines(&best.sheet).into_iter().filter(|row| !row.starts_with(b"party,")).collect();
-    let plain = Case { settings: None, sheet: others.concat(), ..best.clone() };
+    let plain = Case { settings: None, sheet: without_party_rows(&best.sheet), ..best.clone() };
     if best.settings.is_some() && shows(&plain) {
         *best = plain;
     }

@@ -2,7 +2,7 @@
 
 use crate::features::{feature_count, feature_name, Features};
 use crate::readers::{guarded, Reader};
-use cases::{read_case, write_case, write_join, write_start, write_writing, Case, Join, Next, Start, Writing};
+use cases::{read_case, write_case, write_conversion, write_join, write_start, write_writing, Case, Conversion, Join, Next, Start, Writing};
 use std::collections::HashMap;
 use std::fs::File;
 use std::io::{self, BufReader, BufWriter, Write};
@@ -143,7 +143,7 @@ pub fn stored(input: &str) -> io::Result<Vec<Case>> {
     loop {
         match read_case(&mut file)? {
             Next::Case(case) => cases.push(case),
-            Next::Chain(_) | Next::Join(_) | Next::Writing(_) => {}
+            Next::Chain(_) | Next::Join(_) | Next::Writing(_) | Next::Conversion(_) => {}
             Next::End => return Ok(cases),
             Next::Bad => return Err(io::Error::other(format!("{input} is no replay input"))),
         }
@@ -176,11 +176,12 @@ pub fn short_of(cases: &[Case], second: Reader) -> Vec<String> {
     (0..counts.len()).filter(|&feature| counts[feature] < at_least(feature)).map(feature_name).collect()
 }
 
-/// What is stored behind the cases: the starts of chains (document 02 §13), the joins (§3) and the lists to be written (§7).
+/// What is stored behind the cases: the starts of chains (document 02 §13), the joins (§3), the lists to be written (§7) and the conversions (§10).
 pub struct Behind {
     pub starts: Vec<Start>,
     pub joins: Vec<Join>,
     pub writings: Vec<Writing>,
+    pub conversions: Vec<Conversion>,
 }
 
 /// Writes the cases as replay input to one file and the second reader's answers to the other, and the others behind them, numbered on.
@@ -205,6 +206,11 @@ pub fn write(cases: &[Case], behind: &Behind, input: &str, output: &str, second:
         let writing = Writing { id, ..writing.clone() };
         write_writing(&mut to_input, &writing)?;
         to_output.write_all(second::write(&writing).as_bytes())?;
+    }
+    for (conversion, id) in behind.conversions.iter().zip(ids.by_ref()) {
+        let conversion = Conversion { id, ..conversion.clone() };
+        write_conversion(&mut to_input, &conversion)?;
+        to_output.write_all(second::convert(&conversion).as_bytes())?;
     }
     to_input.flush()?;
     to_output.flush()

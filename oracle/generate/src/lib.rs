@@ -3,6 +3,7 @@
 
 mod arguments;
 pub mod chains;
+mod conversions;
 mod damage;
 mod days;
 pub mod durations;
@@ -28,12 +29,13 @@ mod writings;
 #[cfg(test)]
 mod tests;
 
+pub use conversions::conversion;
 pub use exhaustive::{exhaustive, exhaustive_case, exhaustive_count};
 pub use isolation::beside;
 pub use joins::{join, join_of_a_rule, WRONG_TEXTS};
 pub use large::landmarks;
 pub use reflow::{gaps, joins, reflowed, span};
-pub use requests::{requests, stored_joins, stored_writings, LAYOUTS};
+pub use requests::{requests, stored_conversions, stored_joins, stored_writings, LAYOUTS};
 pub use respell::respelled;
 pub use rng::Rng;
 pub use writings::{roles, writing, Reads};

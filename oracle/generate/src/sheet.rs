@@ -121,7 +121,7 @@ fn row_count(rng: &mut Rng) -> usize {
     }
 }
 
-fn adapter_number(rng: &mut Rng) -> u8 {
+pub fn adapter_number(rng: &mut Rng) -> u8 {
     rng.pick(&[0, 0, 0, 1, 1, 2, 9, 10, 99, 100, 199, 254, 255])
 }
 
@@ -130,6 +130,17 @@ fn adapter_number(rng: &mut Rng) -> u8 {
 struct Palette {
     names: [&'static [u8]; 6],
     adapters: [u8; 3],
+    /// The numbers of all rows, if these are to be few.
+    numbers: Option<[usize; 2]>,
+}
+
+impl Palette {
+    fn number(&self, rng: &mut Rng, kind: Kind) -> usize {
+        match &self.numbers {
+            Some(few) => rng.pick(few).min(kind.last()),
+            None => rng.within(0, kind.last()),
+        }
+    }
 }
 
 /// The palette for a sheet of `count` rows; many rows have short names, or else the sheet would get too long.
@@ -143,14 +154,14 @@ fn palette(rng: &mut Rng, count: usize) -> Palette {
         }
     }
     let adapters = [adapter_number(rng), adapter_number(rng), adapter_number(rng)];
-    Palette { names, adapters }
+    Palette { names, adapters, numbers: None }
 }
 
 fn random_row(rng: &mut Rng, palette: &Palette) -> (Row, usize) {
     let kind = rng.pick(&KINDS);
     let number = match rng.below(4) {
-        0 => rng.pick(&[0, 1, kind.last()]),
-        _ => rng.within(0, kind.last()),
+        0 if palette.numbers.is_none() => rng.pick(&[0, 1, kind.last()]),
+        _ => palette.number(rng, kind),
     };
     (Row { kind, adapter: rng.pick(&palette.adapters), name: rng.pick(&palette.names) }, number)
 }
@@ -170,14 +181,26 @@ pub fn filled(rng: &mut Rng, count: usize) -> Sheet {
     made(rng, count, shared)
 }
 
+/// A well-formed sheet in which few lamps, groups and devices have many rows.
+pub fn crowded(rng: &mut Rng) -> Sheet {
+    let (shared, count) = (rng.once_in(2), rng.within(4, 20));
+    let numbers = Some([rng.pick(&[0, 4, 15, 63]), rng.within(0, 63)]);
+    let palette = Palette { numbers, ..palette(rng, count) };
+    made_of(rng, &palette, count, shared)
+}
+
 fn made(rng: &mut Rng, count: usize, shared: bool) -> Sheet {
     let palette = palette(rng, count);
+    made_of(rng, &palette, count, shared)
+}
+
+fn made_of(rng: &mut Rng, palette: &Palette, count: usize, shared: bool) -> Sheet {
     let listed = palette.adapters.iter().copied().filter(|_| !rng.once_in(8)).map(Line::Adapter).collect();
     let parties = if shared { parties::rows(rng, &palette.adapters, count) } else { Vec::new() };
     let primary = if rng.once_in(8) { adapter_number(rng) } else { palette.adapters[0] };
     let mut sheet = Sheet { adapters: palette.adapters.to_vec(), primary, ..Sheet::default() };
     let mut lines = vec![format!("primary,{primary}").into_bytes()];
-    for line in arranged(rng, &palette, count, [listed, parties.into_iter().map(Line::Party).collect()]) {
+    for line in arranged(rng, palette, count, [listed, parties.into_iter().map(Line::Party).collect()]) {
         lines.push(line.bytes());
         sheet.add(line);
     }
@@ -198,14 +221,14 @@ fn arranged(rng: &mut Rng, palette: &Palette, count: usize, lists: [Vec<Line>; 2
 
 /// Rows with names; now and then one has the name and kind of the one before it, on its adapter or on another.
 fn named(rng: &mut Rng, palette: &Palette, count: usize) -> Vec<Line> {
-    let mut last = None;
+    let mut last: Option<Row> = None;
     let mut lines = Vec::with_capacity(count);
     for _ in 0..count {
         let (row, number) = match last {
-            Some(row) if rng.once_in(12) => numbered(rng, row),
+            Some(row) if rng.once_in(12) => (row, palette.number(rng, row.kind)),
             Some(row) if rng.once_in(8) => {
                 let adapter = rng.pick(&palette.adapters);
-                numbered(rng, Row { adapter, ..row })
+                (Row { adapter, ..row }, palette.number(rng, row.kind))
             }
             _ => random_row(rng, palette),
         };
@@ -213,10 +236,6 @@ fn named(rng: &mut Rng, palette: &Palette, count: usize) -> Vec<Line> {
         last = Some(row);
     }
     lines
-}
-
-fn numbered(rng: &mut Rng, row: Row) -> (Row, usize) {
-    (row, rng.within(0, row.kind.last()))
 }
 
 /// Mostly before the other lines, else behind or among them.

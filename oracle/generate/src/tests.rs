@@ -2,6 +2,7 @@ use super::*;
 use crate::vocabulary::{
     BESIDE_FORBIDDEN, CHARACTERS, DAYS, DECIMALS, DURATIONS, FORBIDDEN, ILL_FORMED, NO_DAYS, SIGNS, SPACES, TIMES, TOPICS, WORDS,
 };
+use cases::Direction;
 
 const SEED: u64 = 7;
 const MANY: u64 = 60_000;
@@ -71,6 +72,23 @@ fn lists_follow_from_their_seed_and_fit_the_replay_format() {
         if index % 16 == 0 {
             assert_eq!(made, writing(SEED, index, reads));
             assert_ne!(made, writing(SEED + 1, index, reads));
+        }
+    }
+}
+
+#[test]
+fn conversions_follow_from_their_seed_and_fit_the_replay_format() {
+    for index in (0..MANY / 4).chain([u64::MAX]) {
+        let made = conversion(SEED, index);
+        assert_eq!(made.id, index);
+        let fits = match &made.direction {
+            Direction::Forward { rows } => rows.len() <= MOST_BYTES,
+            Direction::Back { size, .. } => *size <= MOST_WORDS,
+        };
+        assert!(fits && made.sheet.len() <= MOST_BYTES, "{index}");
+        if index % 16 == 0 {
+            assert_eq!(made, conversion(SEED, index));
+            assert_ne!(made, conversion(SEED + 1, index));
         }
     }
 }

@@ -1,4 +1,4 @@
-//! The token buffer that a caller lends.
+//! The buffers that a caller lends.
 
 use crate::lexer::Token;
 use cases::{place_word, RECORD};
@@ -43,6 +43,16 @@ pub fn record(token: &Token) -> [u32; RECORD] {
     let word = |size: usize| u32::try_from(size).unwrap_or(UNTOUCHED);
     let place = token.place;
     [token.kind as u32, token.number, word(token.start), word(token.length), place_word(place.line, place.column)]
+}
+
+/// What every byte holds before a call that writes bytes.
+const UNTOUCHED_BYTE: u8 = 165;
+
+/// Whether every byte past these is untouched, once they are written into a buffer of so many bytes.
+pub fn kept_behind(written: &[u8], size: usize) -> bool {
+    let mut buffer = vec![UNTOUCHED_BYTE; size];
+    buffer[..written.len()].copy_from_slice(written);
+    buffer[written.len()..].iter().all(|&byte| byte == UNTOUCHED_BYTE)
 }
 
 #[cfg(test)]

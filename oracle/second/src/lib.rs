@@ -4,6 +4,7 @@
 mod buffer;
 mod chains;
 mod conditions;
+mod convert;
 mod days;
 mod durations;
 mod flat;
@@ -23,6 +24,7 @@ mod values;
 mod write;
 
 pub use chains::{chains, next};
+pub use convert::convert;
 pub use flat::{flat_of_call, flat_of_join};
 pub use join::join;
 pub use write::write;

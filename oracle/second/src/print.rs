@@ -1,6 +1,6 @@
 //! The replay format (docs/REPLAY.md).
 
-use crate::buffer::Buffer;
+use crate::buffer::{kept_behind, Buffer};
 use crate::days::Days;
 use crate::join::{Joined, Refused};
 use crate::model::*;
@@ -38,13 +38,23 @@ pub fn joined(id: u64, buffers: [&Buffer; 2], result: &Result<Joined, Refused>) 
     lines.iter().map(|line| format!("{line}\n")).collect()
 }
 
-/// The answer to one `write` line (document 02 §7): whether the bytes past the text stayed, then the refusal, or the text's length and bytes.
-pub fn written(id: u64, kept: bool, result: &Read<Vec<u8>>) -> String {
-    let said = match result {
-        Err(r) => format!("refused {}", refusal(r)),
-        Ok(text) => format!("written {} {}", text.len(), hex(text)),
+/// The answer to one `write` or `back` line (document 02 §7, §10), with a buffer of so many bytes: whether the bytes past what was written stayed, then the
+/// refusal, or the length and the bytes.
+pub fn written(id: u64, size: usize, result: &Read<Vec<u8>>) -> String {
+    let (bytes, said) = match result {
+        Err(r) => (&[][..], format!("refused {}", refusal(r))),
+        Ok(bytes) => (&bytes[..], format!("written {} {}", bytes.len(), hex(bytes))),
     };
-    format!("case {id}\nbuffer {}\n{said}\n", if kept { "kept" } else { "changed" })
+    format!("case {id}\nbuffer {}\n{said}\n", if kept_behind(bytes, size) { "kept" } else { "changed" })
+}
+
+/// The answer to one `rows` line (document 02 §10).
+pub fn converted(id: u64, result: &Read<Vec<Trigger>>) -> String {
+    let said = match result {
+        Err(r) => vec![format!("refused {}", refusal(r))],
+        Ok(triggers) => [format!("accepted {} 0", triggers.len())].into_iter().chain(triggers.iter().map(|t| format!("T {}", trigger(t)))).collect(),
+    };
+    format!("case {id}\n{}\n", said.join("\n"))
 }
 
 /// The token lines of a buffer and its `buffer` line.

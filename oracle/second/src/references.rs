@@ -4,7 +4,7 @@ use crate::lexer::{Kind as TokenKind, Token};
 use crate::model::{Instance, Ref, Selector, Target};
 use crate::reader::{in_range, Read, Reader, Repeats};
 use crate::refusal::{Place, Refusal};
-use crate::sheet::{Kind, Row};
+use crate::sheet::{Kind, Row, View};
 
 pub const HIGHEST_ADAPTER: u32 = 255;
 /// The highest instance, instance group and instance type.
@@ -101,7 +101,7 @@ impl<'a> Reader<'a> {
     fn adapter(&mut self) -> Read<u32> {
         let place = self.place();
         let adapter = self.integer(HIGHEST_ADAPTER)?;
-        if self.given.sheet.listed.contains(&adapter) { Ok(adapter) } else { Err(Refusal::new(25, place)) }
+        listed(&self.given.sheet, adapter, place)
     }
 
     /// "An id, address, scene or instance group without an adapter takes the primary": the call's.
@@ -112,28 +112,11 @@ impl<'a> Reader<'a> {
     /// The range of an id, or the rows of a name. Only a reference in use comes here.
     fn judge(&mut self, kind: Kind, token: Token, adapter: Option<u32>) -> Read<Ref> {
         if token.kind == TokenKind::String {
-            return self.look_up(kind, token, adapter);
+            return picked(&self.given.sheet, kind, self.bytes(token), adapter, token.place);
         }
         let number = in_range(token, kind.highest())?;
         self.left_out.numbered(token.place);
         Ok(Ref { adapter: self.or_primary(adapter), number })
-    }
-
-    /// 31 to 34, at the name.
-    fn look_up(&self, kind: Kind, token: Token, adapter: Option<u32>) -> Read<Ref> {
-        let name = self.bytes(token);
-        let named = |row: &&Row| row.kind == kind && row.name == name;
-        let rows: Vec<&Row> = self.given.sheet.rows.iter().filter(named).collect();
-        let Some(first) = rows.first() else {
-            return Err(Refusal::new(31, token.place));
-        };
-        let in_scope = |row: &&&Row| adapter.is_none_or(|adapter| row.adapter == adapter);
-        let scope: Vec<&Row> = rows.iter().filter(in_scope).copied().collect();
-        match scope[..] {
-            [] => Err(Refusal::with_detail(32, token.place, first.adapter)),
-            [row] => Ok(Ref { adapter: row.adapter, number: row.number }),
-            [..] => Err(more_than_one(&scope, token.place)),
-        }
     }
 
     /// TARGET: lamp R, group R or broadcast. A word that fits none of them is 20.
@@ -241,6 +224,27 @@ impl<'a> Reader<'a> {
         let instance = arguments.inst.ok_or(Refusal::new(29, close))?;
         let device = self.judge(Kind::Input, dev, arguments.adapter)?;
         Ok(Selector::Instance(Instance { device, instance }))
+    }
+}
+
+/// An adapter that is named: 25 if it is not listed.
+pub fn listed(sheet: &View, adapter: u32, place: Place) -> Read<u32> {
+    if sheet.listed.contains(&adapter) { Ok(adapter) } else { Err(Refusal::new(25, place)) }
+}
+
+/// The reference that a name picks, with this adapter named or with none: 31 to 34.
+pub fn picked(sheet: &View, kind: Kind, name: &[u8], adapter: Option<u32>, place: Place) -> Read<Ref> {
+    let named = |row: &&Row| row.kind == kind && row.name == name;
+    let rows: Vec<&Row> = sheet.rows.iter().filter(named).collect();
+    let Some(first) = rows.first() else {
+        return Err(Refusal::new(31, place));
+    };
+    let in_scope = |row: &&&Row| adapter.is_none_or(|adapter| row.adapter == adapter);
+    let scope: Vec<&Row> = rows.iter().filter(in_scope).copied().collect();
+    match scope[..] {
+        [] => Err(Refusal::with_detail(32, place, first.adapter)),
+        [row] => Ok(Ref { adapter: row.adapter, number: row.number }),
+        [..] => Err(more_than_one(&scope, place)),
     }
 }
 

@@ -26,7 +26,7 @@ impl Kind {
         }
     }
 
-    fn of(field: &[u8]) -> Option<Kind> {
+    pub fn of(field: &[u8]) -> Option<Kind> {
         match field {
             b"lamp" => Some(Kind::Lamp),
             b"group" => Some(Kind::Group),
@@ -92,20 +92,20 @@ impl<'a> Sheet<'a> {
         // "A name runs to the line end, commas included": only the first three commas part fields.
         let fields: Vec<&[u8]> = line.splitn(4, |&b| b == b',').collect();
         match fields[..] {
-            [b"primary", adapter] if before == 0 => decimal(adapter, HIGHEST).is_some(),
+            [b"primary", primary] if before == 0 => adapter(primary).is_some(),
             _ if before == 0 => false,
-            [b"adapter", adapter] => decimal(adapter, HIGHEST).map(|a| self.listed.push(a)).is_some(),
-            [b"party", adapter, party] => self.assign(adapter, party),
-            [kind, adapter, number, name] => {
-                row(kind, adapter, number, name).map(|row| self.rows.push(row)).is_some()
+            [b"adapter", listed] => adapter(listed).map(|a| self.listed.push(a)).is_some(),
+            [b"party", owned, party] => self.assign(owned, party),
+            [kind, on, number, name] => {
+                row(kind, on, number, name).map(|row| self.rows.push(row)).is_some()
             }
             _ => false,
         }
     }
 
     /// Takes a row `party,A,P`; "a second such row for one is a bad line (3)", whatever party it names.
-    fn assign(&mut self, adapter: &[u8], party: &[u8]) -> bool {
-        match (decimal(adapter, HIGHEST), decimal(party, HIGHEST)) {
+    fn assign(&mut self, owned: &[u8], party: &[u8]) -> bool {
+        match (adapter(owned), decimal(party, HIGHEST)) {
             (Some(adapter), Some(party)) => self.parties.insert(adapter, party).is_none(),
             _ => false,
         }
@@ -125,13 +125,21 @@ impl<'a> Sheet<'a> {
     }
 }
 
-fn row<'a>(kind: &[u8], adapter: &[u8], number: &[u8], name: &'a [u8]) -> Option<Row<'a>> {
+fn row<'a>(kind: &[u8], on: &[u8], number: &[u8], name: &'a [u8]) -> Option<Row<'a>> {
     let kind = Kind::of(kind)?;
-    let adapter = decimal(adapter, HIGHEST)?;
+    let adapter = adapter(on)?;
     let number = decimal(number, kind.highest())?;
-    // "A name has no quote, LF or other CR."
-    let fits = (1..=MOST_NAME).contains(&name.len()) && !name.iter().any(|byte| b"\"\r".contains(byte));
-    fits.then_some(Row { kind, adapter, number, name })
+    is_name(name).then_some(Row { kind, adapter, number, name })
+}
+
+/// "A name has no quote, LF or other CR", and 1 to 48 bytes. A line of the sheet has no LF.
+pub fn is_name(bytes: &[u8]) -> bool {
+    (1..=MOST_NAME).contains(&bytes.len()) && !bytes.iter().any(|byte| b"\"\n\r".contains(byte))
+}
+
+/// The number of an adapter: 0 to 255, without a leading zero.
+pub fn adapter(field: &[u8]) -> Option<u32> {
+    decimal(field, HIGHEST)
 }
 
 /// A decimal number of at most `most` (which has at most three digits), without a leading zero.

@@ -10,36 +10,30 @@ use crate::{print, seen, well_formed_sheet};
 use cases::{Row, Writing, ROWS};
 
 const LEAST_BYTES: usize = 4_096;
-/// What every byte of the buffer is before a call.
-const UNTOUCHED: u8 = 165;
 /// "Durations up to 1,000,000,000 ms are written in ms, longer ones in seconds with three places."
 const MOST_MILLISECONDS: u32 = 1_000_000_000;
 
 /// The answer to a `write` line, in the replay format. "Bytes past the text, and all on refusal, stay."
 pub fn write(writing: &Writing) -> String {
-    let mut buffer = vec![UNTOUCHED; writing.size];
-    let result = section(writing);
-    let length = result.as_ref().map_or(0, Vec::len);
-    if let Ok(text) = &result {
-        buffer[..length].copy_from_slice(text);
-    }
-    let kept = buffer[length..].iter().all(|&byte| byte == UNTOUCHED);
-    print::written(writing.id, kept, &result)
+    print::written(writing.id, writing.size, &section(writing))
 }
 
 /// The text. "One that reads no rule text gives 3, then 53, first" (§6); then 54, 55 and 56, in this order.
 fn section(writing: &Writing) -> Read<Vec<u8>> {
     let sheet = well_formed_sheet(&writing.sheet)?;
     let view = seen(&sheet, writing.party, writing.primary)?;
-    if writing.size < LEAST_BYTES {
-        return Err(Refusal::new(54, Place::NONE));
-    }
+    room_for(LEAST_BYTES, writing.size)?;
     let lists = lists(writing)?;
     text(&lists, &view)
 }
 
+/// 54: "a buffer under" so many bytes.
+pub fn room_for(least: usize, size: usize) -> Read<()> {
+    if size < least { Err(Refusal::new(54, Place::NONE)) } else { Ok(()) }
+}
+
 /// "For 55 and 56 the line is the first such entry's ordinal, triggers first (0 for a bad count, which comes first), the column 0."
-fn at_entry(number: u32, ordinal: usize) -> Refusal {
+pub fn at_entry(number: u32, ordinal: usize) -> Refusal {
     Refusal::new(number, Place { line: ordinal as u32, column: 0 })
 }
 

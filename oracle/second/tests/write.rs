@@ -10,23 +10,13 @@ const NONE: u32 = u32::MAX;
 /// -5 as two words.
 const MINUS_5: [u32; 2] = [u32::MAX - 4, u32::MAX];
 
-/// A row: FROM, the words, and zeros behind them.
 fn row(from: u32, words: &[u32]) -> Row {
-    let mut row = Row { from, words: [0; ENTRY] };
-    row.words[..words.len()].copy_from_slice(words);
-    row
-}
-
-fn flat(triggers: &[Row], conditions: &[Row]) -> Flat {
-    let mut flat = Flat { counts: [triggers.len() as u32, conditions.len() as u32], ..Flat::default() };
-    flat.triggers[..triggers.len()].copy_from_slice(triggers);
-    flat.conditions[..conditions.len()].copy_from_slice(conditions);
-    flat
+    Row::new(from, words)
 }
 
 fn writing(triggers: &[Row], conditions: &[Row]) -> Writing {
     let texts = TEXTS.map(|text| text.as_bytes().to_vec());
-    Writing { id: 1, size: 4_096, party: 0, primary: 0, texts, sheet: SHEET.into(), lists: flat(triggers, conditions) }
+    Writing { id: 1, size: 4_096, party: 0, primary: 0, texts, sheet: SHEET.into(), lists: Flat::new(triggers, conditions) }
 }
 
 /// The last line of an answer, with the text in the place of its length and hex.

@@ -8,6 +8,7 @@ fn main() -> io::Result<()> {
     let no_generator = |start: &cases::Start| outside(start.id);
     let no_join = |join: &cases::Join| outside(join.id);
     let no_writer = |writing: &cases::Writing| outside(writing.id);
-    cases::replay(&mut io::stdin().lock(), &mut out, supplied::answer, no_generator, no_join, no_writer)?;
+    let no_converter = |conversion: &cases::Conversion| outside(conversion.id);
+    cases::replay(&mut io::stdin().lock(), &mut out, supplied::answer, no_generator, no_join, no_writer, no_converter)?;
     out.flush()
 }

@@ -1,9 +1,10 @@
 use super::coverage::Coverage;
 use super::faults::{Way, FAULTS, THE_RIGHT_WAY};
-use super::run::{run, smallest, Difference, Other, Outcome, Readers};
+use super::run::{Difference, Other, Readers};
 use super::sorts;
-use crate::batches::Plan;
+use crate::batches::{Found, Plan};
 use crate::features::{OF_THE_PROFILE, REFUSALS};
+use crate::held::{run, smallest, Held};
 use crate::tokens::refusal;
 use cases::{Case, Habit, Join, LEAST_WORDS};
 use std::collections::BTreeSet;
@@ -22,8 +23,8 @@ fn plan(count: u64, batch: u64) -> Plan<'static, Join> {
 fn found(join: &(dyn Fn(&Join) -> String + Sync), count: u64) -> Option<(u64, Difference)> {
     let readers = Readers { join, call: &second::answer, replay: None };
     match run(&plan(count, 50), &readers).expect("no program is run") {
-        Outcome::Same(_) => None,
-        Outcome::Different(found) => Some((found.join.id, smallest(&found, &readers))),
+        Found::Same(_) => None,
+        Found::Different(found) => Some((found.line.id, smallest(&found, &readers))),
     }
 }
 
@@ -41,11 +42,11 @@ fn the_right_way_is_the_second_readers() {
 fn every_seeded_fault_is_found() {
     for (fault, way) in FAULTS {
         let (index, small) = found(&|join| way.join(join), 20_000).unwrap_or_else(|| panic!("not found: {fault}"));
-        let size = small.join.texts[0].len() + small.join.texts[1].len() + small.join.sheet.len() + small.join.topics.len();
+        let size = small.line.texts[0].len() + small.line.texts[1].len() + small.line.sheet.len() + small.line.topics.len();
         println!("{index} {size} {fault}");
         assert_eq!(small.other, Other::Calls, "{fault}");
-        assert!(size < 250, "{fault}\n{}\n{}", small.join.texts[0].escape_ascii(), small.join.texts[1].escape_ascii());
-        assert_ne!(way.join(&small.join), second::join(&small.join));
+        assert!(size < 250, "{fault}\n{}\n{}", small.line.texts[0].escape_ascii(), small.line.texts[1].escape_ascii());
+        assert_ne!(way.join(&small.line), second::join(&small.line));
     }
 }
 
@@ -66,7 +67,7 @@ fn what_comes_of_others_rows_is_found() {
 #[test]
 fn every_sort_comes_up() {
     let readers = Readers { join: &second::join, call: &second::answer, replay: None };
-    let Outcome::Same(coverage) = run(&Plan { threads: 2, ..plan(50_000, 1_000) }, &readers).unwrap() else { panic!("a difference") };
+    let Found::Same(coverage) = run(&Plan { threads: 2, ..plan(50_000, 1_000) }, &readers).unwrap() else { panic!("a difference") };
     assert_eq!(coverage.zeros(), Vec::<String>::new());
     assert!(coverage.accepted > 15_000 && coverage.beside > 40_000, "{coverage:?}");
     assert_eq!(Coverage::default().zeros().len(), sorts::all().len() + 1);

@@ -2,7 +2,7 @@
 
 pub mod coverage;
 mod phrases;
-mod reread;
+pub mod reread;
 pub mod run;
 mod sorts;
 pub mod way;

@@ -3,8 +3,8 @@
 use cases::{Case, Flat, List, Writing};
 use generate::roles::{roles, Role};
 
-/// The text that an answer says was written.
-pub fn text(answer: &str) -> Option<Vec<u8>> {
+/// The bytes that an answer says were written.
+pub fn bytes(answer: &str) -> Option<Vec<u8>> {
     let hex = answer.lines().last()?.strip_prefix("written ")?.split_once(" x")?.1;
     let digit = |b: u8| char::from(b).to_digit(16).map(|digit| digit as u8);
     hex.as_bytes().chunks(2).map(|two| Some(digit(two[0])? * 16 + digit(*two.get(1)?)?)).collect()
@@ -12,7 +12,7 @@ pub fn text(answer: &str) -> Option<Vec<u8>> {
 
 /// The call that reads it.
 pub fn call(writing: &Writing, answer: &str) -> Option<Case> {
-    text(answer).map(|text| writing.call(text))
+    bytes(answer).map(|text| writing.call(text))
 }
 
 /// Both lists, a line for each entry: its words, with the bytes in the place of each range. FROM is left out.

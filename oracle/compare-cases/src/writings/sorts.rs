@@ -3,8 +3,9 @@
 
 use super::way::{entries, number, Entry, Given, Held, RIGHT};
 use crate::features;
+use crate::parties;
 use crate::tokens::shown;
-use cases::{fields, lines, own_primary, List, Writing, ENTRY};
+use cases::{own_primary, List, Writing, ENTRY};
 use generate::roles::{kinds, layout, Range, Role, Word, EVERY_DAY, HIGHEST_ADAPTER, HIGHEST_OF_ARGS, LEAST_PERIOD, MOST_NUMBER, NO_TYPE};
 use std::collections::{BTreeSet, HashMap};
 use std::sync::OnceLock;
@@ -192,12 +193,8 @@ pub fn place(sort: &str) -> Option<usize> {
     PLACES.get_or_init(|| all().iter().cloned().zip(0..).collect()).get(sort).copied()
 }
 
-/// Whose an adapter is by a well-formed sheet: whether it is the party's, and whether it is listed.
 fn whose(writing: &Writing, adapter: u32) -> (bool, bool) {
-    let rows: Vec<Vec<&[u8]>> = lines(&writing.sheet).into_iter().map(fields).collect();
-    let adapter = adapter.to_string();
-    let party = rows.iter().find(|row| row[0] == b"party" && row[1] == adapter.as_bytes()).map_or(b"0".as_slice(), |row| row[2]);
-    (party == writing.party.to_string().as_bytes(), rows.iter().any(|row| row[0] == b"adapter" && row[1] == adapter.as_bytes()))
+    parties::whose(&writing.sheet, writing.party, &adapter.to_string())
 }
 
 /// What is wrong, apart from what the sheet and the party say.

@@ -1,10 +1,11 @@
 use super::coverage::Coverage;
 use super::faults::FAULTS;
-use super::run::{run, smallest, Difference, Other, Outcome, Readers};
+use super::run::{Difference, Other, Readers};
 use super::sorts;
 use super::way::{Given, Way};
-use crate::batches::Plan;
-use cases::{Case, Flat, List, Row, Writing, ENTRY};
+use crate::batches::{Found, Plan};
+use crate::held::{run, smallest, Held};
+use cases::{Case, Flat, List, Row, Writing};
 use std::collections::BTreeSet;
 
 const SEED: u64 = 11;
@@ -31,8 +32,8 @@ fn by(way: &Way, writing: &Writing) -> String {
 fn found(write: &(dyn Fn(&Writing) -> String + Sync), count: u64) -> Option<(u64, Difference)> {
     let readers = readers(write);
     match run(&plan(count, 50), &readers).expect("no program is run") {
-        Outcome::Same(_) => None,
-        Outcome::Different(found) => Some((found.writing.id, smallest(&found, &readers))),
+        Found::Same(_) => None,
+        Found::Different(found) => Some((found.line.id, smallest(&found, &readers))),
     }
 }
 
@@ -41,10 +42,10 @@ fn found(write: &(dyn Fn(&Writing) -> String + Sync), count: u64) -> Option<(u64
 fn every_seeded_fault_is_found() {
     for (fault, way) in FAULTS {
         let (index, small) = found(&|writing| by(way, writing), 20_000).unwrap_or_else(|| panic!("not found: {fault}"));
-        let size = small.writing.texts[0].len() + small.writing.texts[1].len() + small.writing.sheet.len();
+        let size = small.line.texts[0].len() + small.line.texts[1].len() + small.line.sheet.len();
         println!("{index} {size} {fault}");
-        assert!(size < 120 || *fault == "texts up to 16384 bytes", "{fault}\n{:?}", small.writing);
-        assert_ne!(by(way, &small.writing), second::write(&small.writing));
+        assert!(size < 120 || *fault == "texts up to 16384 bytes", "{fault}\n{:?}", small.line);
+        assert_ne!(by(way, &small.line), second::write(&small.line));
     }
 }
 
@@ -86,7 +87,7 @@ fn what_is_read_back_and_what_comes_of_others_rows_is_found() {
 /// Nothing is left uncovered by far fewer lists than a run has.
 #[test]
 fn every_sort_comes_up() {
-    let Outcome::Same(coverage) = run(&Plan { threads: 2, ..plan(60_000, 1_000) }, &readers(&second::write)).unwrap() else { panic!("a difference") };
+    let Found::Same(coverage) = run(&Plan { threads: 2, ..plan(60_000, 1_000) }, &readers(&second::write)).unwrap() else { panic!("a difference") };
     assert_eq!(coverage.zeros(), Vec::<String>::new());
     let Coverage { written, in_domain, beside, .. } = coverage;
     assert!(written > 20_000 && in_domain > 10_000 && beside > 50_000, "{written} {in_domain} {beside}");
@@ -95,16 +96,9 @@ fn every_sort_comes_up() {
     assert_eq!(different.len(), sorts::all().len());
 }
 
-fn row(from: u32, words: &[u32]) -> Row {
-    let mut row = Row { from, words: [0; ENTRY] };
-    row.words[..words.len()].copy_from_slice(words);
-    row
-}
-
 /// The sorts that one trigger shows, in the text `"a" b`, with adapter 1 listed and adapter 2 of another party; without those of all lists.
 fn shown(from: u32, words: &[u32]) -> String {
-    let mut lists = Flat { counts: [1, 0], ..Flat::default() };
-    lists.triggers[0] = row(from, words);
+    let lists = Flat::new(&[Row::new(from, words)], &[]);
     let (texts, sheet) = ([b"\"a\" b".to_vec(), Vec::new()], b"primary,0\nadapter,1\nadapter,2\nparty,2,7\n".to_vec());
     let writing = Writing { id: 1, size: 4_096, party: 0, primary: 0, texts, sheet, lists };
     let found = sorts::sorts(&writing, &second::write(&writing));

@@ -15,7 +15,7 @@ use crate::vocabulary::{DAYS, LENT_ODDITIES, TOPICS};
 use crate::{damage, large, parties, spoil_sheet, text, words, LONGEST_TEXT};
 use cases::{Habit, Join, LEAST_WORDS, MOST_BYTES, MOST_TOKENS};
 use entry::{same_length, Entry};
-pub use scope::Scope;
+pub use scope::{named_rows, Row, Scope};
 use std::borrow::Cow;
 use wording::Wording;
 pub use wrong::WRONG_TEXTS;

@@ -8,7 +8,7 @@ use crate::topics::fits;
 use crate::vocabulary::{NAMES, TOPICS, VAR_TEXTS};
 use cases::{fields, lines};
 
-/// A row of the party's with a name that a text can have.
+/// A row of a sheet with a name.
 #[derive(Debug, Clone, PartialEq)]
 pub struct Row {
     pub kind: Kind,
@@ -29,6 +29,11 @@ pub struct Scope {
 
 fn digits(field: &[u8]) -> Option<usize> {
     std::str::from_utf8(field).ok()?.parse().ok()
+}
+
+/// The rows with names of a well-formed sheet.
+pub fn named_rows(sheet: &[u8]) -> Vec<Row> {
+    lines(sheet).into_iter().filter_map(row).collect()
 }
 
 fn row(line: &[u8]) -> Option<Row> {

@@ -1,5 +1,6 @@
 //! Fixed cases for the requests of document 02, to be stored behind the sample of document 01.
 
+mod conversions;
 mod days;
 mod joins;
 mod layout;
@@ -7,6 +8,7 @@ mod profile;
 mod sheets;
 mod writings;
 
+pub use conversions::conversions as stored_conversions;
 pub use joins::joins as stored_joins;
 pub use layout::LAYOUTS;
 pub use writings::writings as stored_writings;

@@ -37,7 +37,7 @@ pub fn any(rng: &mut Rng, writing: &mut Writing, adapters: &Adapters) {
 }
 
 /// A kind that the list has not, often with nothing beside it.
-fn no_kind(rng: &mut Rng, list: List, row: &mut Row) {
+pub fn no_kind(rng: &mut Rng, list: List, row: &mut Row) {
     row.words[0] = rng.pick(&[0, kinds(list) + 1, 17, 21, 22, 255, row.words[0] | 256, u32::MAX]);
     if rng.once_in(2) {
         row.words[1..].fill(0);
@@ -56,7 +56,7 @@ pub fn reach(rng: &mut Rng, writing: &mut Writing, adapters: &Adapters) {
 }
 
 /// A word of such a role that does not fit it.
-fn word(rng: &mut Rng, list: List, row: &mut Row, of: impl Fn(Role) -> bool) {
+pub fn word(rng: &mut Rng, list: List, row: &mut Row, of: impl Fn(Role) -> bool) {
     let roles = roles(list, &row.words);
     let places: Vec<usize> = (0..ENTRY).filter(|&at| of(roles[at])).collect();
     if !places.is_empty() {
@@ -77,7 +77,7 @@ fn bound(rng: &mut Rng, list: List, row: &mut Row) {
     }
 }
 
-fn wrong_count(rng: &mut Rng, count: u32) -> u32 {
+pub fn wrong_count(rng: &mut Rng, count: u32) -> u32 {
     rng.pick(&[0, 0, 5, 5, 6, 8, 256, count | 1 << 8, count | 1 << 16, count | 1 << 31, u32::MAX, count.saturating_sub(1), 4])
 }
 

@@ -1,10 +1,10 @@
 //! Document 02 §7: two lists to be written. Some are what a rule gives, or two joined ones; the others are made of words, with names of their
 //! own. Many are damaged.
 
-mod damage;
+pub(crate) mod damage;
 mod names;
 pub mod roles;
-mod values;
+pub(crate) mod values;
 
 use crate::joins::{Rule, Scope};
 use crate::rng::Rng;
@@ -42,7 +42,7 @@ pub fn writing(seed: u64, index: u64, reads: Reads) -> Writing {
         names::settle(rng, &mut writing, strings);
     }
     if rng.once_in(4) {
-        past_the_counts(rng, &mut writing);
+        past_the_counts(rng, &mut writing.lists);
     }
     for _ in 0..rng.pick(&[0, 0, 0, 0, 1, 1, 1, 1, 2, 3]) {
         damage::any(rng, &mut writing, &adapters);
@@ -125,7 +125,8 @@ fn made_of_words(rng: &mut Rng, writing: &mut Writing, adapters: &Adapters) {
     names::settle(rng, writing, strings);
 }
 
-fn any_row(rng: &mut Rng, list: List, adapters: &Adapters) -> Row {
+/// An entry of any kind, each word as its role allows; of names and texts alone the words are 0.
+pub(crate) fn any_row(rng: &mut Rng, list: List, adapters: &Adapters) -> Row {
     // Entries with a value have more forms than all others together.
     let kind = if list == List::Conditions && rng.once_in(2) { rng.pick(&[4, 5, 8, 15, 15]) } else { rng.within(1, kinds(list) as usize) as u32 };
     let mut words = [0; ENTRY];
@@ -143,10 +144,10 @@ fn any_row(rng: &mut Rng, list: List, adapters: &Adapters) -> Row {
 }
 
 /// Anything in the rows that are not in use.
-fn past_the_counts(rng: &mut Rng, writing: &mut Writing) {
+pub(crate) fn past_the_counts(rng: &mut Rng, lists: &mut Flat) {
     for list in List::BOTH {
-        let used = writing.lists.used(list).len();
-        for row in &mut writing.lists.rows_mut(list)[used..ROWS] {
+        let used = lists.used(list).len();
+        for row in &mut lists.rows_mut(list)[used..ROWS] {
             *row = Row { from: rng.pick(&[0, 1, 2, 3, u32::MAX]), words: std::array::from_fn(|_| rng.next() as u32) };
         }
     }

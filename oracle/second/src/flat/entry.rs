@@ -1,6 +1,6 @@
 //! An entry from the words of a row.
 
-use super::{COMPARISONS, GROUP, HCL, NO_TYPE, OCCUPANCY, ON_OFF, OVERRIDE, RAW, READINGS, SIDES, SUN, UP_DOWN};
+use super::{COMPARISONS, GROUP, HCL, NO_TYPE, OCCUPANCY, ONLINE, ON_OFF, OVERRIDE, RAW, READINGS, SIDES, SUN, UP_DOWN};
 use crate::days::Days;
 use crate::lexer::MOST_RUN;
 use crate::model::*;
@@ -29,6 +29,20 @@ pub fn trigger<'a>(row: &Row, texts: [&'a [u8]; 2]) -> Option<Trigger<'a>> {
 /// The condition of a row, likewise.
 pub fn condition<'a>(row: &Row, texts: [&'a [u8]; 2]) -> Option<Condition<'a>> {
     whole(row, texts, |words| words.condition())
+}
+
+/// The kind, the reference and the choice of a trigger about a lamp that turns on or off, a group that becomes any_on or all_off, or a device that goes
+/// offline or comes online; nothing for the words of another. The reference is as the words have it, and may be past its bounds.
+pub fn named_trigger(row: &Row) -> Option<(Kind, Ref, Choice)> {
+    let [kind, adapter, number, code, rest @ ..] = row.words;
+    let (kind, choices) = match kind {
+        10 => (Kind::Lamp, ON_OFF),
+        12 => (Kind::Group, GROUP),
+        14 => (Kind::Device, ONLINE),
+        _ => return None,
+    };
+    let choice = *choices.get(usize::try_from(code).ok()?.checked_sub(1)?)?;
+    rest.iter().all(|&word| word == 0).then_some((kind, Ref { adapter, number }, choice))
 }
 
 /// "FROM (1 or 2: the text in which the entry's names stand)." Words that the entry does not name are 0.

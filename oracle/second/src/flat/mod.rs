@@ -4,7 +4,7 @@ mod entry;
 mod lists;
 mod row;
 
-pub use entry::{condition, trigger};
+pub use entry::{condition, named_trigger, trigger};
 pub use lists::{flat_of_call, flat_of_join};
 
 use crate::model::{Choice, Comparison};
@@ -19,6 +19,7 @@ const SIDES: &[Choice] = &["above", "below"];
 const SUN: &[Choice] = &["sunrise", "sunset"];
 const ON_OFF: &[Choice] = &["on", "off"];
 const GROUP: &[Choice] = &["any_on", "all_off"];
+const ONLINE: &[Choice] = &["offline", "online"];
 const OVERRIDE: &[Choice] = &["starts", "clears"];
 const HCL: &[Choice] = &["enabled", "overridden"];
 const UP_DOWN: &[Choice] = &["up", "down"];
