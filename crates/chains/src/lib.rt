@@ -14,7 +14,7 @@ use crate::place::Place;
 pub const MOST_PIECES: usize = 15;
 
 // A sequence of `count` pieces, those past the count 0; no pieces if none follows; or a refusal's number.
-#[derive(Drop)]
+#[derive(Clone, Copy)]
 pub struct Chain {
     pub number: u32,
     pub count: usize,

@@ -8,7 +8,7 @@ use crate::MOST_PIECES;
 
 // Behind which pieces; a condition begins at Start, and another piece than those that may stand there leads Nowhere. `lamp` is read in two places: Lamp and
 // those after it begin a condition, Read and those after it the value that it is compared with.
-#[derive(Drop)]
+#[derive(Clone, Copy)]
 pub enum Place {
     Start,
     Sun,

@@ -11,7 +11,7 @@ use model::{Condition, Name, Trigger};
 use text::part;
 
 // An entry to compare: its row with zeros for its names, and the names. One that it does not have is empty.
-#[derive(Drop)]
+#[derive(Clone, Copy)]
 pub struct Entry {
     pub row: Row,
     pub first: Name,

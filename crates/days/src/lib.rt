@@ -9,7 +9,7 @@ use model::Days;
 use tokens::cursor::{Accepted, Cursor, Refusal, Taken};
 use tokens::kind;
 
-#[derive(Drop)]
+#[derive(Clone, Copy)]
 pub enum DaysAnswer {
     Got(Days, Cursor),
     No(Refusal),

@@ -6,16 +6,16 @@ ghost use Rattle.flat.specs.Flat.{selector_words, event_words, target_words, bou
 use crate::codes;
 use model::{Delta, Event, LightTarget, Reading, Selector, TimeBound, Value};
 
-#[derive(Drop)]
+#[derive(Clone, Copy)]
 pub struct Two(pub u32, pub u32);
 
-#[derive(Drop)]
+#[derive(Clone, Copy)]
 pub struct Three(pub u32, pub u32, pub u32);
 
-#[derive(Drop)]
+#[derive(Clone, Copy)]
 pub struct Four(pub u32, pub u32, pub u32, pub u32);
 
-#[derive(Drop)]
+#[derive(Clone, Copy)]
 pub struct Seven(
     pub u32,
     pub u32,

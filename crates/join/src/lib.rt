@@ -20,7 +20,7 @@ const MOST_TRIGGERS: usize = 4;
 
 // The answer of joining. `which` is the text that is refused, 1 or 2, or 0 for neither. The names of an accepted trigger stand in the text that `from` gives in its place, 1 or 2;
 // those of the conditions stand in the first text.
-#[derive(Drop)]
+#[derive(Clone, Copy)]
 pub struct Joined {
     pub which: u32,
     pub answer: Answer,
@@ -28,7 +28,7 @@ pub struct Joined {
 }
 
 // The triggers that are kept so far, and the text of each.
-#[derive(Drop)]
+#[derive(Clone, Copy)]
 pub struct Kept {
     pub rows: [TriggerRow; 8],
     pub from: [u32; 8],
@@ -36,7 +36,7 @@ pub struct Kept {
 }
 
 // The ranges of a text's topics, a start and a length for each; the first `count` words are in use.
-#[derive(Drop)]
+#[derive(Clone, Copy)]
 pub struct Topics {
     pub words: [u32; 8],
     pub count: usize,

@@ -5,14 +5,14 @@ ghost use Rattle.std.specs.Prelude.{◌≡◌, []};
 ghost use Rattle.model.specs.Lists.{triggers_of, conditions_of, refused_with};
 
 // A name or other string: the range of its bytes in the rule text, inside the quotes.
-#[derive(Drop)]
+#[derive(Clone, Copy)]
 pub struct Name {
     pub start: u32,
     pub length: u32,
 }
 
 // What a reference is to: an adapter and a number on it. Which kind it is, the form around it says.
-#[derive(Drop)]
+#[derive(Clone, Copy)]
 pub struct Ref {
     pub adapter: u32,
     pub number: u32,
@@ -36,27 +36,27 @@ impl Ref {
 }
 
 // An instance of an input device.
-#[derive(Drop)]
+#[derive(Clone, Copy)]
 pub struct InputRef {
     pub device: Ref,
     pub instance: u32,
 }
 
 // A number that may be absent.
-#[derive(Drop)]
+#[derive(Clone, Copy)]
 pub enum Number {
     Absent,
     Is(u32),
 }
 
 // What `input(…)` selects: an instance of a device, or a group of instances on an adapter, perhaps of one type.
-#[derive(Drop)]
+#[derive(Clone, Copy)]
 pub enum Selector {
     Instance(Ref, u32),
     Group(u32, u32, Number),
 }
 
-#[derive(Drop)]
+#[derive(Clone, Copy)]
 pub enum LightTarget {
     Lamp(Ref),
     Group(Ref),
@@ -64,25 +64,25 @@ pub enum LightTarget {
 }
 
 // A set of days: the sum of 1 for Monday, 2 for Tuesday, and so on to 64 for Sunday.
-#[derive(Drop)]
+#[derive(Clone, Copy)]
 pub struct Days {
     pub sum: u32,
 }
 
-#[derive(Drop)]
+#[derive(Clone, Copy)]
 pub enum SolarEvent {
     Sunrise,
     Sunset,
 }
 
 // A time of day in minutes since midnight, or a solar event with an offset in milliseconds.
-#[derive(Drop)]
+#[derive(Clone, Copy)]
 pub enum TimeBound {
     Clock(u32),
     Solar(SolarEvent, i32),
 }
 
-#[derive(Drop)]
+#[derive(Clone, Copy)]
 pub enum Event {
     Press,
     Release,
@@ -99,43 +99,43 @@ pub enum Event {
     Raw(u32),
 }
 
-#[derive(Drop)]
+#[derive(Clone, Copy)]
 pub enum Occupancy {
     Occupied,
     Vacant,
 }
 
-#[derive(Drop)]
+#[derive(Clone, Copy)]
 pub enum Crossing {
     Above,
     Below,
 }
 
-#[derive(Drop)]
+#[derive(Clone, Copy)]
 pub enum Power {
     On,
     Off,
 }
 
-#[derive(Drop)]
+#[derive(Clone, Copy)]
 pub enum Aggregate {
     AnyOn,
     AllOff,
 }
 
-#[derive(Drop)]
+#[derive(Clone, Copy)]
 pub enum Online {
     GoesOffline,
     ComesOnline,
 }
 
-#[derive(Drop)]
+#[derive(Clone, Copy)]
 pub enum Override {
     Starts,
     Clears,
 }
 
-#[derive(Drop)]
+#[derive(Clone, Copy)]
 pub enum Trigger {
     InputEvent(Selector, Event),
     InputOccupancy(InputRef, Occupancy),
@@ -167,7 +167,7 @@ pub enum Trigger {
     MqttMessage(Name),
 }
 
-#[derive(Drop)]
+#[derive(Clone, Copy)]
 pub enum LampReading {
     Level,
     Cct,
@@ -175,14 +175,14 @@ pub enum LampReading {
     LastLevel,
 }
 
-#[derive(Drop)]
+#[derive(Clone, Copy)]
 pub enum GroupReading {
     AnyOn,
     AllOff,
     MemberCount,
 }
 
-#[derive(Drop)]
+#[derive(Clone, Copy)]
 pub enum InputReading {
     Occupied,
     Light,
@@ -190,7 +190,7 @@ pub enum InputReading {
     LastEventAge,
 }
 
-#[derive(Drop)]
+#[derive(Clone, Copy)]
 pub enum TimeReading {
     Now,
     Hour,
@@ -198,14 +198,14 @@ pub enum TimeReading {
     Weekday,
 }
 
-#[derive(Drop)]
+#[derive(Clone, Copy)]
 pub enum SunReading {
     Rise,
     Set,
     IsUp,
 }
 
-#[derive(Drop)]
+#[derive(Clone, Copy)]
 pub enum EventReading {
     Value,
     Device,
@@ -214,7 +214,7 @@ pub enum EventReading {
 }
 
 // What is read while the controller runs: of what, and which property.
-#[derive(Drop)]
+#[derive(Clone, Copy)]
 pub enum Reading {
     Lamp(Ref, LampReading),
     Group(Ref, GroupReading),
@@ -226,32 +226,32 @@ pub enum Reading {
 }
 
 // The number that may be added to a reading.
-#[derive(Drop)]
+#[derive(Clone, Copy)]
 pub enum Delta {
     Absent,
     Is(i64),
 }
 
 // A number, or a reading with perhaps a number added.
-#[derive(Drop)]
+#[derive(Clone, Copy)]
 pub enum Value {
     Literal(i64),
     Reads(Reading, Delta),
 }
 
-#[derive(Drop)]
+#[derive(Clone, Copy)]
 pub enum Sun {
     Up,
     Down,
 }
 
-#[derive(Drop)]
+#[derive(Clone, Copy)]
 pub enum Hcl {
     Enabled,
     Overridden,
 }
 
-#[derive(Drop)]
+#[derive(Clone, Copy)]
 pub enum Comparison {
     Eq,
     Ne,
@@ -262,20 +262,20 @@ pub enum Comparison {
 }
 
 // A lamp's property that a condition can compare.
-#[derive(Drop)]
+#[derive(Clone, Copy)]
 pub enum LampProperty {
     Level,
     Cct,
 }
 
 // What a var is compared with.
-#[derive(Drop)]
+#[derive(Clone, Copy)]
 pub enum Operand {
     Text(Name),
     Number(Value),
 }
 
-#[derive(Drop)]
+#[derive(Clone, Copy)]
 pub enum Condition {
     TimeInRange(TimeBound, TimeBound),
     SunIs(Sun),
@@ -296,30 +296,30 @@ pub enum Condition {
 }
 
 // The finished lists: four records each, of which the first count are in use.
-#[derive(Drop)]
+#[derive(Clone, Copy)]
 pub struct TriggerRow {
     pub trigger: Trigger,
 }
 
-#[derive(Drop)]
+#[derive(Clone, Copy)]
 pub struct Triggers {
     pub rows: [TriggerRow; 4],
     pub count: usize,
 }
 
-#[derive(Drop)]
+#[derive(Clone, Copy)]
 pub struct ConditionRow {
     pub condition: Condition,
 }
 
-#[derive(Drop)]
+#[derive(Clone, Copy)]
 pub struct Conditions {
     pub rows: [ConditionRow; 4],
     pub count: usize,
 }
 
 // The answer to a whole call: four zeros and the lists, or a refusal's number, place and detail with empty lists.
-#[derive(Drop)]
+#[derive(Clone, Copy)]
 pub struct Answer {
     pub number: u32,
     pub line: u32,

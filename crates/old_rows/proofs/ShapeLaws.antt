@@ -10,7 +10,7 @@ use lib.Seq.{get_or-drop}
 use lib.Dec.{ltb, eqb}
 use borrow.Author.Rules.{rules}
 use borrow.Author.Tests.{lt-ltb, le-ltb, eq-eqb, ne_eqb, not-true, not-false, ltb-true, ltb-false}
-use Rattle.bytes.specs.Bytes.{index_of}
+use Rattle.text.specs.Find.{index_of}
 use Rattle.text.specs.Choice.{pick}
 use Rattle.text.specs.Part.{part_of}
 use Rattle.text.proofs.FindLaws.{index-found, first-is, first-from, first-within, first-same, first-here}

@@ -26,7 +26,7 @@ const MOST_BYTES: usize = 272;
 const MOST_TRIGGERS: usize = 4;
 
 // What a trigger says: a change, and of what.
-#[derive(Drop)]
+#[derive(Clone, Copy)]
 pub struct Changed {
     pub change: Change,
     pub of: Numbered,
@@ -201,7 +201,7 @@ fn put_row(out: &mut [u8], at: usize, change: Change, name: &[u8], adapter: u32)
 }
 
 // The rows that were made: their length, or the ordinal of the first trigger without a name.
-#[derive(Drop)]
+#[derive(Clone, Copy)]
 pub struct Rows {
     pub unnamed: u32,
     pub length: usize,

@@ -7,7 +7,7 @@ use sheet::line;
 use sheet::resolve::Scope;
 
 // What becomes of a lamp, a group or a device.
-#[derive(Drop)]
+#[derive(Clone, Copy)]
 pub enum Change {
     Lamp(Power),
     Group(Aggregate),
@@ -16,7 +16,7 @@ pub enum Change {
 }
 
 // A change of what has the row's name, on one adapter or on any.
-#[derive(Drop)]
+#[derive(Clone, Copy)]
 pub enum Row {
     Says { change: Change, scope: Scope },
     Malformed,

@@ -8,7 +8,7 @@ use model::{Answer, Condition, ConditionRow, Conditions, Trigger, Triggers};
 use tokens::cursor::{Cursor, Refusal};
 
 // The triggers and the cursor behind them, or a refusal.
-#[derive(Drop)]
+#[derive(Clone, Copy)]
 pub struct Whens {
     pub accepted: bool,
     pub refusal: Refusal,
@@ -17,7 +17,7 @@ pub struct Whens {
 }
 
 // The conditions and the cursor behind them, or a refusal.
-#[derive(Drop)]
+#[derive(Clone, Copy)]
 pub struct Ifs {
     pub accepted: bool,
     pub refusal: Refusal,
@@ -26,7 +26,7 @@ pub struct Ifs {
 }
 
 // Both lists, or a refusal.
-#[derive(Drop)]
+#[derive(Clone, Copy)]
 pub struct Rule {
     pub accepted: bool,
     pub refusal: Refusal,

@@ -36,21 +36,21 @@ pub const OCCUPANCY_SENSOR: u32 = 3;
 
 pub const LIGHT_SENSOR: u32 = 4;
 
-#[derive(Drop)]
+#[derive(Clone, Copy)]
 pub enum Dev {
     Absent,
     Is(NameOrId),
 }
 
 // An instance group, and the index of its number's token.
-#[derive(Drop)]
+#[derive(Clone, Copy)]
 pub enum GroupArg {
     Absent,
     Is(u32, usize),
 }
 
 // One argument.
-#[derive(Drop)]
+#[derive(Clone, Copy)]
 pub enum Item {
     Device(NameOrId),
     Instance(u32),
@@ -60,7 +60,7 @@ pub enum Item {
 }
 
 // The arguments so far: the last of each.
-#[derive(Drop)]
+#[derive(Clone, Copy)]
 pub struct Args {
     pub dev: Dev,
     pub inst: Number,
@@ -71,25 +71,25 @@ pub struct Args {
 }
 
 // The answers: a value and the cursor behind it, or a refusal.
-#[derive(Drop)]
+#[derive(Clone, Copy)]
 pub enum ItemAnswer {
     Got(Item, Cursor),
     No(Refusal),
 }
 
-#[derive(Drop)]
+#[derive(Clone, Copy)]
 pub enum ArgsAnswer {
     Got(Args, Cursor),
     No(Refusal),
 }
 
-#[derive(Drop)]
+#[derive(Clone, Copy)]
 pub enum SelectorAnswer {
     Got(Selector, Cursor),
     No(Refusal),
 }
 
-#[derive(Drop)]
+#[derive(Clone, Copy)]
 pub enum InputAnswer {
     Got(InputRef, Cursor),
     No(Refusal),

@@ -11,38 +11,38 @@ use sheet::{Settings, kind, profile, resolve, rows};
 use tokens::cursor::{Accepted, Cursor, Refusal, Taken};
 
 // A name, by its token's index, or an id and its token's index.
-#[derive(Drop)]
+#[derive(Clone, Copy)]
 pub enum NameOrId {
     Name(usize),
     Id(u32, usize),
 }
 
 // The answers: a value and the cursor behind it, or a refusal.
-#[derive(Drop)]
+#[derive(Clone, Copy)]
 pub enum IndexAnswer {
     Got(usize, Cursor),
     No(Refusal),
 }
 
-#[derive(Drop)]
+#[derive(Clone, Copy)]
 pub enum NameAnswer {
     Got(NameOrId, Cursor),
     No(Refusal),
 }
 
-#[derive(Drop)]
+#[derive(Clone, Copy)]
 pub enum ScopeAnswer {
     Got(Scope, Cursor),
     No(Refusal),
 }
 
-#[derive(Drop)]
+#[derive(Clone, Copy)]
 pub enum RefAnswer {
     Got(Ref, Cursor),
     No(Refusal),
 }
 
-#[derive(Drop)]
+#[derive(Clone, Copy)]
 pub enum TargetAnswer {
     Got(LightTarget, Cursor),
     No(Refusal),

@@ -5,7 +5,7 @@ use crate::{input, layout, out, report, written};
 const ROOM: usize = 512;
 
 // The first line: its number, the party and its primary adapter, the size of the rows, or how many bytes are lent for them, and the size of the sheet.
-#[derive(Drop)]
+#[derive(Clone, Copy)]
 struct Head {
     id: u64,
     party: u8,

@@ -5,7 +5,7 @@ use crate::{forms, input, layout, out, report, show};
 const ROOM: usize = 131072;
 
 // The first line: its number, the words that it lends for each text, the party and its primary adapter, and the sizes of what follows.
-#[derive(Drop)]
+#[derive(Clone, Copy)]
 struct Head {
     id: u64,
     words: usize,
@@ -19,7 +19,7 @@ struct Head {
 }
 
 // A list of an answer: the letter of its form, where the word stands that says the text of the first entry, how far behind it that of the next, where the rows begin, and how many are in use.
-#[derive(Drop)]
+#[derive(Clone, Copy)]
 struct List {
     letter: u8,
     from: usize,

@@ -21,7 +21,7 @@ const WORDS: usize = 8192;
 const MOST: u64 = 255;
 
 // What a call names beside its text and its sheet.
-#[derive(Drop)]
+#[derive(Clone, Copy)]
 struct Names {
     habit: u32,
     party: u8,
@@ -30,7 +30,7 @@ struct Names {
 
 // The first line of a case or a call: what it names and its number, the words that it lends, and the sizes of what follows. A case names no primary adapter
 // and has no topics.
-#[derive(Drop)]
+#[derive(Clone, Copy)]
 struct Head {
     names: Names,
     id: u64,

@@ -30,7 +30,7 @@ const ENTRIES: usize = 4;
 const ROOM: usize = 16640;
 
 // The first line: its number, the bytes that it lends, the party and its primary adapter, and the sizes of what follows.
-#[derive(Drop)]
+#[derive(Clone, Copy)]
 struct Head {
     id: u64,
     size: usize,

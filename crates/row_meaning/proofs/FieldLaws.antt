@@ -8,7 +8,7 @@ use lib.ListN.{length, length-append}
 use lib.Seq.{take-append_seam, drop-append-add, get_or-append-add}
 use lib.Dec.{eqb}
 use borrow.Author.Tests.{lt-ltb, ltb-false, eq-eqb, ne_eqb, eqb-false}
-use Rattle.bytes.specs.Bytes.{index_of, index_after}
+use Rattle.text.specs.Find.{index_of, index_after}
 use Rattle.text.specs.Split.{onto, split}
 use Rattle.tokens.specs.Rules.{Without}
 use Rattle.model.specs.Ranges.{Each}

@@ -7,7 +7,7 @@ use wording::options::Options;
 use wording::{files, layout, options, out, rows, say, seen};
 
 // What is done with two files, of which the second is the sheet: a rule is checked, written out or converted to rows, or rows are converted.
-#[derive(Drop)]
+#[derive(Clone, Copy)]
 pub enum Task {
     Check,
     Write,

@@ -4,7 +4,7 @@ use crate::{diagnose, reading};
 use wording::{files, layout, out, say, source, stands};
 
 // Where a token begins, or a text ends.
-#[derive(Drop)]
+#[derive(Clone, Copy)]
 struct Place {
     line: u32,
     column: u32,

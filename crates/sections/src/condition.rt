@@ -24,19 +24,19 @@ use tokens::kind;
 // The longest text of a var, in bytes.
 const MAX_VAR_TEXT: usize = 16;
 
-#[derive(Drop)]
+#[derive(Clone, Copy)]
 pub enum ComparisonAnswer {
     Got(Comparison, Cursor),
     No(Refusal),
 }
 
-#[derive(Drop)]
+#[derive(Clone, Copy)]
 pub enum OperandAnswer {
     Got(Operand, Cursor),
     No(Refusal),
 }
 
-#[derive(Drop)]
+#[derive(Clone, Copy)]
 pub enum ConditionAnswer {
     Got(Condition, Cursor),
     No(Refusal),

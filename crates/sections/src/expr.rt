@@ -19,13 +19,13 @@ use sheet::{Settings, profile};
 use tokens::cursor::{Accepted, Cursor, Refusal, Taken};
 use tokens::kind;
 
-#[derive(Drop)]
+#[derive(Clone, Copy)]
 pub enum ReadingAnswer {
     Got(Reading, Cursor),
     No(Refusal),
 }
 
-#[derive(Drop)]
+#[derive(Clone, Copy)]
 pub enum ValueAnswer {
     Got(Value, Cursor),
     No(Refusal),

@@ -14,7 +14,7 @@ const MOST_LATER: u32 = 2147483647;
 
 const MOST_EARLIER: u32 = 2147483648;
 
-#[derive(Drop)]
+#[derive(Clone, Copy)]
 pub enum BoundAnswer {
     Got(TimeBound, Cursor),
     No(Refusal),

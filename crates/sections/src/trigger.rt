@@ -32,13 +32,13 @@ const MAX_LEVEL: u32 = 254;
 
 const MAX_EVENT_INFORMATION: u32 = 1023;
 
-#[derive(Drop)]
+#[derive(Clone, Copy)]
 pub enum EventAnswer {
     Got(Event, Cursor),
     No(Refusal),
 }
 
-#[derive(Drop)]
+#[derive(Clone, Copy)]
 pub enum TriggerAnswer {
     Got(Trigger, Cursor),
     No(Refusal),

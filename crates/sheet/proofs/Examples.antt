@@ -3,7 +3,7 @@ use mathlib.Core.Path.{◌≡◌, refl}
 use mathlib.Core.List.{List, [], ◌∷◌, ◌++◌}
 use Prim.Native.Nat.{ℕ}
 use Prim.Native.String.{String}
-use Rattle.bytes.specs.Bytes.{index_of, index_after}
+use Rattle.text.specs.Find.{index_of, index_after}
 use Rattle.text.specs.Literal.{ascii}
 use Rattle.text.specs.Part.{same_bytes}
 use Rattle.text.specs.Ascii.{is_digit}

@@ -11,7 +11,7 @@ use lib.ListN.{length, take, drop, get_or, length-drop, drop_of_length-le}
 use lib.Seq.{take_all, drop-cons}
 use lib.Dec.{ltb, leb, eqb}
 use borrow.Author.Tests.{lt-ltb, le-ltb, le-leb, lt-leb, eq-eqb, ne_eqb, not-true, not-false}
-use Rattle.bytes.specs.Bytes.{index_of}
+use Rattle.text.specs.Find.{index_of}
 use Rattle.text.specs.Choice.{pick}
 use Rattle.text.proofs.Tests.{picked, steps, eq_yes, eq_no, eq-told-yes, eq-told-no}
 use Rattle.text.specs.Ascii.{is_digit}

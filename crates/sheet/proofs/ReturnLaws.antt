@@ -9,7 +9,7 @@ use lib.ListN.{length, take, drop, get_or, length-append, length-take}
 use lib.Seq.{take-append-add, get_or-append-add}
 use lib.Dec.{eqb, ltb, leb}
 use borrow.Author.Tests.{leb-true, lt-leb, eqb-true, eq-eqb, ne_eqb}
-use Rattle.bytes.specs.Bytes.{index_of, index_after}
+use Rattle.text.specs.Find.{index_of, index_after}
 use Rattle.text.specs.Choice.{pick, within}
 use Rattle.text.specs.Literal.{ascii}
 use Rattle.text.specs.Part.{same_bytes}

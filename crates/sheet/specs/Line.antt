@@ -1,7 +1,7 @@
 -- What a line of the name sheet says (document 01, "The name sheet"): `primary,A`, `adapter,A` or `K,A,N,name`; and, by document 02, §6, `party,A,P`.
 -- Where a line ends and what a name is are document 02, §8.
 use Rattle.std.specs.Prelude.{ℕ, ◌+◌, ◌-◌, ◌*◌, List, [], ◌∷◌, Bool, true, false, length, take, drop, get_or, ltb, leb, eqb}
-use Rattle.bytes.specs.Bytes.{index_of}
+use Rattle.text.specs.Find.{index_of}
 use Rattle.text.specs.Choice.{pick, within}
 use Rattle.text.specs.Literal.{ascii}
 use Rattle.text.specs.Part.{same_bytes}

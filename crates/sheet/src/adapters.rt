@@ -4,7 +4,7 @@ ghost use Rattle.sheet.specs.Adapters.{has, put, packed};
 
 use model::limits;
 
-#[derive(Drop)]
+#[derive(Clone, Copy)]
 pub struct Adapters {
     pub words: [u32; 8],
 }

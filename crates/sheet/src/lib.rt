@@ -11,7 +11,7 @@ use adapters::Adapters;
 
 // Which texts a call takes. By default a repeated argument of `input(` is refused; the archive loader lets it replace the earlier one; under the
 // shop profile there is besides no numbered reference, no broadcast and no `event` reading.
-#[derive(Drop)]
+#[derive(Clone, Copy)]
 pub enum Habit {
     Rule,
     Archive,
@@ -19,7 +19,7 @@ pub enum Habit {
 }
 
 // What a call names beside its text and its sheet: whose call it is, and the adapter of a reference that names none.
-#[derive(Drop)]
+#[derive(Clone, Copy)]
 pub struct Call {
     pub habit: Habit,
     pub party: u8,
@@ -27,7 +27,7 @@ pub struct Call {
 }
 
 // What a call goes by in its reading: of the sheet, which adapters are the party's, and which are listed, its own or another's.
-#[derive(Drop)]
+#[derive(Clone, Copy)]
 pub struct Settings {
     pub primary: u32,
     pub habit: Habit,

@@ -1,7 +1,7 @@
 // One line of the name sheet. What a line means is said in one definition, line_of, and read by one function, line_of.
 ghost use Rattle.std.specs.Prelude.{◌≡◌, not, ℕ, ◌+◌, ◌-◌, length};
 ghost use Rattle.text.specs.Block.{block};
-ghost use Rattle.bytes.specs.Bytes.{index_of};
+ghost use Rattle.text.specs.Find.{index_of};
 ghost use Rattle.sheet.specs.Line.{without_return, rest, numeral, is_mark, plain, is_name, digits_on, checked_row, read_row, primary_of, adapter_of, party_by, party_of, line_by, bare_line, bare_name, line_of, name_of};
 
 use crate::kind;
@@ -9,7 +9,7 @@ use model::limits;
 
 // What a line says: the primary adapter, a listed adapter, whose an adapter is, a row of a kind with its adapter and number, or nothing
 // that a sheet may say.
-#[derive(Drop)]
+#[derive(Clone, Copy)]
 pub enum Line {
     Primary(u32),
     Adapter(u32),

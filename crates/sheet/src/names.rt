@@ -11,7 +11,7 @@ use crate::resolve::{Found, Scope};
 use crate::{Settings, adapters, line, resolve, rows};
 
 // A lamp, group, device or input device, as an id refers to it.
-#[derive(Drop)]
+#[derive(Clone, Copy)]
 pub struct Numbered {
     pub kind: u32,
     pub adapter: u32,
@@ -19,7 +19,7 @@ pub struct Numbered {
 }
 
 // How a name is written so that it refers to one: by itself, with its adapter behind it, or in no way.
-#[derive(Drop)]
+#[derive(Clone, Copy)]
 pub enum Form {
     Alone,
     WithAdapter,

@@ -14,14 +14,14 @@ use crate::{Settings, adapters, line, rows};
 use text::place;
 
 // The adapter in a reference's parentheses: none, or one.
-#[derive(Drop)]
+#[derive(Clone, Copy)]
 pub enum Scope {
     Any,
     On(u32),
 }
 
 // The one row in scope, or a refusal with its detail: 31 no row, 32 none in scope, 33 or 34 more than one.
-#[derive(Drop)]
+#[derive(Clone, Copy)]
 pub enum Found {
     One { adapter: u32, number: u32 },
     Refused { number: u32, detail: u32 },
@@ -29,7 +29,7 @@ pub enum Found {
 
 // What is known of the rows with the name that were seen: whether there was one and the first's adapter; of those in scope how many,
 // the first's adapter and number, and whether another is on another adapter.
-#[derive(Drop)]
+#[derive(Clone, Copy)]
 pub struct Tally {
     pub known: bool,
     pub first: u32,

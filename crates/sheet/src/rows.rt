@@ -16,7 +16,7 @@ pub const LAST_LINE: u32 = MAX_ROWS + 1;
 pub const MAX_SHEET_BYTES: usize = 16384;
 
 // What the lines so far say of adapters: whose is said, which are the party's, and which are listed.
-#[derive(Drop)]
+#[derive(Clone, Copy)]
 pub struct Said {
     pub owners: Adapters,
     pub own: Adapters,
@@ -24,14 +24,14 @@ pub struct Said {
 }
 
 // Question 3's answer: well formed, or the first bad line.
-#[derive(Drop)]
+#[derive(Clone, Copy)]
 pub enum Verdict {
     WellFormed,
     BadLine(u32),
 }
 
 // The verdict, and what the lines ahead of a bad one say of adapters: in a well-formed sheet all lines.
-#[derive(Drop)]
+#[derive(Clone, Copy)]
 pub struct Survey {
     pub verdict: Verdict,
     pub said: Said,

@@ -10,7 +10,7 @@ use lib.ListN.{length, drop, get_or, length-drop, drop_of_length-le}
 use lib.Seq.{drop-cons, take-length}
 use lib.Dec.{ltb, eqb}
 use borrow.Author.Tests.{eqb-true, ltb-true, ltb-false, eq-eqb, ne_eqb}
-use Rattle.bytes.specs.Bytes.{index_of, index_after, slice}
+use Rattle.text.specs.Find.{index_of, index_after}
 use Rattle.text.proofs.Tests.{picked, lt_no}
 use Rattle.text.specs.Find.{first_at}
 
@@ -94,8 +94,3 @@ first-same b s at (suc n) h =
     let e : at + suc n ≡ at + n + 1 = omega arith in
     rw e
     (first_next b s (at + n) (omega arith) (λ is. let f = first-here b s (at + n) (omega arith) is in omega arith) ∙ k)
-
--- as the search of the rest finds it
-pub first_found : (b : ℕ) (s : List ℕ) (i : ℕ) {r : ℕ} → i ≤ length s → r ≡ i + index_of b (slice i (length s) s) → r ≡ first_at b s i
-unfolding slice
-first_found b s i h e = rw (take-length s) at e ∙ sym (first-is b s i h)

@@ -11,7 +11,7 @@ use lib.Dec.{eqb}
 use mir.Syntax.{w64}
 use mir.Val.{Fits}
 use borrow.Author.Tests.{lt-ltb}
-use Rattle.bytes.specs.Bytes.{index_of, index_after}
+use Rattle.text.specs.Find.{index_of, index_after}
 use Rattle.text.specs.Part.{part_of}
 use Rattle.text.specs.Find.{first_at}
 use Rattle.text.specs.Split.{onto, parted, split}

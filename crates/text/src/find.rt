@@ -1,6 +1,21 @@
 // Where a byte stands.
-ghost use Rattle.std.specs.Prelude.{◌≡◌};
+ghost use Rattle.std.specs.Prelude.{◌≡◌, ◌≤◌, length};
 ghost use Rattle.text.specs.Find.{first_at};
+
+// The same, byte by byte.
+fn find_each(s: &[u8], from: usize, b: u8) -> usize
+    requires { from ≤ length s.now }
+    ensures { result ≡ first_at b s.now from }
+{
+    let mut i = from;
+    while i < s.len() {
+        if s[i] == b {
+            return i;
+        }
+        i += 1;
+    }
+    i
+}
 
 // The offset of the first b at or behind an offset; the length where there is none. Lines and fields are found by this function, so that
 // it takes eight bytes a turn.
@@ -39,5 +54,5 @@ pub fn find(s: &[u8], from: usize, b: u8) -> usize
         }
         i += 8;
     }
-    bytes::scan::find(s, i, len, b)
+    find_each(s, i, b)
 }

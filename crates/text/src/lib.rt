@@ -1,5 +1,7 @@
 // The text layer: UTF-8 by RFC 3629, classes of ASCII characters, white space, control characters and noncharacters by Unicode, places,
 // and parts of byte slices.
+#![tactic(auto)]
+
 pub mod ascii;
 pub mod category;
 pub mod find;

@@ -6,7 +6,7 @@ ghost use Rattle.text.specs.Place.{counted, after, start, step_of, walked, check
 use crate::utf8;
 use crate::utf8::Decoded;
 
-#[derive(Drop)]
+#[derive(Clone, Copy)]
 pub struct Place {
     pub at: usize,
     pub line: u32,
@@ -14,14 +14,14 @@ pub struct Place {
 }
 
 // The character at a place and the place behind it. Stop: no character begins there.
-#[derive(Drop)]
+#[derive(Clone, Copy)]
 pub enum Step {
     Next { code: u32, place: Place },
     Stop,
 }
 
 // Question 4's answer.
-#[derive(Drop)]
+#[derive(Clone, Copy)]
 pub enum Checked {
     WellFormed,
     IllFormed { line: u32, column: u32 },

@@ -6,7 +6,7 @@ ghost use Rattle.text.specs.Block.{block, Row};
 ghost use Rattle.text.specs.Rfc3629.{Stands};
 
 // What stands at an offset: a character and the offset past it, no character, or the end of the bytes.
-#[derive(Drop)]
+#[derive(Clone, Copy)]
 pub enum Decoded {
     Char { code: u32, next: usize },
     Bad,

@@ -6,7 +6,7 @@ ghost use Rattle.tokens.specs.Cursor.{advanced};
 
 use tokens::cursor::Cursor;
 
-#[derive(Drop)]
+#[derive(Clone, Copy)]
 pub struct TokenReader<'a> {
     pub words: &'a [u32],
     pub index: usize,

@@ -6,13 +6,13 @@ ghost use Rattle.tokens.specs.Cursor.{tokens, is_word, is_kind, take_kind, take_
 
 use crate::{kind, record};
 
-#[derive(Drop)]
+#[derive(Clone, Copy)]
 pub struct Cursor {
     pub index: usize,
 }
 
 // A refusal, at the token with an index: the count of the tokens stands for the end of the text.
-#[derive(Drop)]
+#[derive(Clone, Copy)]
 pub struct Refusal {
     pub number: u32,
     pub token: usize,
@@ -20,14 +20,14 @@ pub struct Refusal {
 }
 
 // The token's number, 0 of a token that has none, and the cursor behind it; or a refusal.
-#[derive(Drop)]
+#[derive(Clone, Copy)]
 pub enum Taken {
     Got(u32, Cursor),
     No(Refusal),
 }
 
 // The cursor behind a token that was there, or that it was not.
-#[derive(Drop)]
+#[derive(Clone, Copy)]
 pub enum Accepted {
     Yes(Cursor),
     Left,

@@ -43,7 +43,7 @@ pub(crate) fn power_of_ten(d: usize) -> u64
 }
 
 // A duration's milliseconds, or the number of its refusal.
-#[derive(Drop)]
+#[derive(Clone, Copy)]
 pub enum Amount {
     Ms(u32),
     Refused(u32),

@@ -23,7 +23,7 @@ pub const MOST_BYTES: usize = 16384;
 pub const LEAST_WORDS: usize = MOST_TOKENS * record::RECORD_SIZE;
 
 // A token with its bytes from start to end and the place behind it, or the number of a refusal.
-#[derive(Drop)]
+#[derive(Clone, Copy)]
 pub enum Lexeme {
     Token {
         kind: u32,
@@ -36,7 +36,7 @@ pub enum Lexeme {
 }
 
 // How lexing ends: with the count of the tokens and the end's line and column, or with a refusal.
-#[derive(Drop)]
+#[derive(Clone, Copy)]
 pub enum Lexed {
     Tokens {
         count: usize,

@@ -3,7 +3,7 @@
 ghost use Rattle.std.specs.Prelude.{◌≡◌, ◌<◌};
 ghost use Rattle.tokens.specs.Record.{record_size, capacity, half_word, place_word, written, word_at, kind_at, number_at, start_at, length_at, line_at, column_at, bytes_at};
 
-#[derive(Drop)]
+#[derive(Clone, Copy)]
 pub struct Record {
     pub kind: u32,
     pub number: u32,

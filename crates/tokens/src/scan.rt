@@ -207,7 +207,7 @@ pub fn skip_trivia(s: &[u8], from: Place) -> Place
 }
 
 // How a string ends: at the offset of its closing quote, with the place behind that, or not at all, at an LF or the end.
-#[derive(Drop)]
+#[derive(Clone, Copy)]
 pub enum Quoted {
     Closed { end: usize, next: Place },
     Unterminated { end: usize },
@@ -252,7 +252,7 @@ pub fn string_end(s: &[u8], from: Place) -> Quoted
 }
 
 // A run of digits: the number it writes and the place behind it, or more than 1,000,000,000.
-#[derive(Drop)]
+#[derive(Clone, Copy)]
 pub enum Run {
     Number { value: u32, end: Place },
     TooLarge,

@@ -10,21 +10,21 @@ use text::part;
 pub const MAX_TOPICS: usize = 8;
 
 // The bytes from an offset up to another.
-#[derive(Drop)]
+#[derive(Clone, Copy)]
 pub struct Range {
     pub start: usize,
     pub end: usize,
 }
 
 // The first count ranges are in use.
-#[derive(Drop)]
+#[derive(Clone, Copy)]
 pub struct Ranges {
     pub rows: [Range; MAX_TOPICS],
     pub count: usize,
 }
 
 // The topic that a trigger names, if it names one: a range of the rule text.
-#[derive(Drop)]
+#[derive(Clone, Copy)]
 pub enum Topic {
     Absent,
     Is(Name),

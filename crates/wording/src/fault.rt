@@ -4,7 +4,7 @@ use sheet::Call;
 
 // The refusal; the offset of its place in the text; if the text was cut into tokens, how many there are and the index of the one that
 // stands there, which is their count at the end of the text; and the call that refused it.
-#[derive(Drop)]
+#[derive(Clone, Copy)]
 pub struct Fault {
     pub number: u32,
     pub line: u32,

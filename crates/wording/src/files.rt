@@ -7,7 +7,7 @@ const MOST_TOPICS: usize = 16384;
 
 // How reading a file went: 0 well, 1 no file name, 2 it cannot be opened, 3 it cannot be read to its end, 4 it is a file of topics that is too long. Then
 // how many bytes were read.
-#[derive(Drop)]
+#[derive(Clone, Copy)]
 pub struct Loaded {
     pub fault: u32,
     pub size: usize,

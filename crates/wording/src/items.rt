@@ -3,7 +3,7 @@ use crate::{marks, out, split};
 
 // How the members are written: as numbers, as references to things of a kind, or as words of a list of candidates.
 // Of a reference: whether the member is its number, or else its adapter; and the adapter behind a number, 256 where none is needed.
-#[derive(Drop)]
+#[derive(Clone, Copy)]
 pub struct Written {
     pub kind: u32,
     pub numbers: bool,

@@ -26,7 +26,7 @@ const NO_RULE: u32 = 14;
 
 // What the options say, NONE for a number that is not given, and the index of the word that names the file of topics; the index of the word behind them; and
 // what is wrong with them, 0 for nothing.
-#[derive(Drop)]
+#[derive(Clone, Copy)]
 pub struct Options {
     pub archive: bool,
     pub shop: bool,

@@ -4,7 +4,7 @@ use sheet::line;
 use sheet::line::Line;
 
 // What is asked of the rows: a kind; an adapter and a number, 256 for any; and of the name 0 nothing, 1 that it is a given one, 2 that it nearly is.
-#[derive(Drop)]
+#[derive(Clone, Copy)]
 pub struct Question {
     pub kind: u32,
     pub adapter: u32,

@@ -4,9 +4,9 @@ use Rattle.back.specs.Rows.{is_condition_row}
 use Rattle.back.proofs.is_condition.Statement.{statement}
 use Rattle.back.proofs.is_condition.Tie as tie
 
-pub is-condition-spec : {M : Type 1} → statement M
+pub is_condition_spec : {M : Type 1} → statement M
 unfolding is_condition_row
-is-condition-spec =
+is_condition_spec =
     tie.close
     (tie.spec
     (λ c κs. search rules)

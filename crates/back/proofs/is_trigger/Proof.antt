@@ -4,9 +4,9 @@ use Rattle.back.specs.Rows.{is_trigger_row}
 use Rattle.back.proofs.is_trigger.Statement.{statement}
 use Rattle.back.proofs.is_trigger.Tie as tie
 
-pub is-trigger-spec : {M : Type 1} → statement M
+pub is_trigger_spec : {M : Type 1} → statement M
 unfolding is_trigger_row
-is-trigger-spec =
+is_trigger_spec =
     tie.close
     (tie.spec
     (λ c κs. search rules)

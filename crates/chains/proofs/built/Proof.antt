@@ -16,8 +16,8 @@ invariant-loop v p low count pieces₀ place₀ i₀ pieces place i =
 abbrev decreases-loop : tie.decreases-loop
 decreases-loop v p low count pieces₀ place₀ i₀ pieces place i = count - i
 
-pub built-spec : {M : Type 1} → statement M
-built-spec =
+pub built_spec : {M : Type 1} → statement M
+built_spec =
     tie.close
     (tie.spec
     invariant-loop

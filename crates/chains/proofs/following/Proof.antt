@@ -4,8 +4,8 @@ use Rattle.chains.proofs.WayLaws.{next-raised, next-longer}
 use Rattle.chains.proofs.following.Statement.{statement}
 use Rattle.chains.proofs.following.Tie as tie
 
-pub following-spec : {M : Type 1} → statement M
-following-spec =
+pub following_spec : {M : Type 1} → statement M
+following_spec =
     tie.close
     (tie.spec
     (λ c κs. search rules)

@@ -14,8 +14,8 @@ invariant-loop v place₀ best₀ i₀ place best i = last_raised place (drop i 
 abbrev decreases-loop : tie.decreases-loop
 decreases-loop v place₀ best₀ i₀ place best i = length v - i
 
-pub last-raised-spec : {M : Type 1} → statement M
-last-raised-spec =
+pub last_raised_spec : {M : Type 1} → statement M
+last_raised_spec =
     tie.close
     (tie.spec
     invariant-loop

@@ -13,8 +13,8 @@ invariant-loop place low left q₀ q = least_from place left (piece_count - q) q
 abbrev decreases-loop : tie.decreases-loop
 decreases-loop place low left q₀ q = piece_count - q
 
-pub least-spec : {M : Type 1} → statement M
-least-spec =
+pub least_spec : {M : Type 1} → statement M
+least_spec =
     tie.close
     (tie.spec
     invariant-loop

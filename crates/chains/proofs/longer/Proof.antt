@@ -13,8 +13,8 @@ invariant-loop v from n₀ n = longer_from v (most_pieces + 1 - n) n ≡ longer 
 abbrev decreases-loop : tie.decreases-loop
 decreases-loop v from n₀ n = most_pieces + 1 - n
 
-pub longer-spec : {M : Type 1} → statement M
-longer-spec =
+pub longer_spec : {M : Type 1} → statement M
+longer_spec =
     tie.close
     (tie.spec
     invariant-loop

@@ -3,8 +3,8 @@ use Rattle.chains.proofs.NextLaws.{start-short, next-by, next-no, both}
 use Rattle.chains.proofs.next.Statement.{statement}
 use Rattle.chains.proofs.next.Tie as tie
 
-pub next-spec : {M : Type 1} → statement M
-next-spec =
+pub next_spec : {M : Type 1} → statement M
+next_spec =
     tie.close
     (tie.spec
     (λ c κs. search rules)

@@ -13,8 +13,8 @@ invariant-loop v place₀ i₀ place i = reached place (drop i v) ≡ reached pl
 abbrev decreases-loop : tie.decreases-loop
 decreases-loop v place₀ i₀ place i = length v - i
 
-pub reached-spec : {M : Type 1} → statement M
-reached-spec =
+pub reached_spec : {M : Type 1} → statement M
+reached_spec =
     tie.close
     (tie.spec
     invariant-loop

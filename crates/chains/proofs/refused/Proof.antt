@@ -3,6 +3,6 @@ use Rattle.chains.specs.Listed.{refused}
 use Rattle.chains.proofs.refused.Statement.{statement}
 use Rattle.chains.proofs.refused.Tie as tie
 
-pub refused-spec : {M : Type 1} → statement M
+pub refused_spec : {M : Type 1} → statement M
 unfolding refused
-refused-spec = tie.close (tie.spec (λ c. refl))
+refused_spec = tie.close (tie.spec (λ c. refl))

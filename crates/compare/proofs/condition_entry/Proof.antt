@@ -15,7 +15,7 @@ made : (y : Condition) {row : List ℕ} {first second : ℕ} {r : Entry} → row
     second ≡ second_name_at row → r ≡ entry_at row first second → r ≡ condition_entry y
 made y d e f g = g ∙ rw (e, f, d) (condition_entry_lem y)
 
-pub condition-entry-spec : {M : Type 1} → statement M
-condition-entry-spec =
+pub condition_entry_spec : {M : Type 1} → statement M
+condition_entry_spec =
     tie.close
     (tie.spec (λ c κs. search rules) (λ c κs. search rules) (λ c κs. search rules) (λ c κs. search rules) (λ c. search (rules, made)))

@@ -13,8 +13,8 @@ made : (row : List ℕ) (first second : ℕ) {bare barer : List ℕ} {m n : Name
 unfolding entry_at
 made row first second d e f g = rw (← d, ← e, ← f, ← g)
 
-pub entry-at-spec : {M : Type 1} → statement M
-entry-at-spec =
+pub entry_at_spec : {M : Type 1} → statement M
+entry_at_spec =
     tie.close
     (tie.spec
     (λ c κs. search rules)

@@ -4,9 +4,9 @@ use Rattle.compare.specs.Rows.{first_name_at}
 use Rattle.compare.proofs.first_name_at.Statement.{statement}
 use Rattle.compare.proofs.first_name_at.Tie as tie
 
-pub first-name-at-spec : {M : Type 1} → statement M
+pub first_name_at_spec : {M : Type 1} → statement M
 unfolding first_name_at
-first-name-at-spec =
+first_name_at_spec =
     tie.close
     (tie.spec
     (λ c. search rules)

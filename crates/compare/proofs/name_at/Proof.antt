@@ -4,9 +4,9 @@ use Rattle.compare.specs.Rows.{name_at}
 use Rattle.compare.proofs.name_at.Statement.{statement}
 use Rattle.compare.proofs.name_at.Tie as tie
 
-pub name-at-spec : {M : Type 1} → statement M
+pub name_at_spec : {M : Type 1} → statement M
 unfolding name_at
-name-at-spec =
+name_at_spec =
     tie.close
     (tie.spec
     (λ c. search steps)

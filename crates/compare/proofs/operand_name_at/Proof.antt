@@ -4,9 +4,9 @@ use Rattle.compare.specs.Rows.{operand_name_at}
 use Rattle.compare.proofs.operand_name_at.Statement.{statement}
 use Rattle.compare.proofs.operand_name_at.Tie as tie
 
-pub operand-name-at-spec : {M : Type 1} → statement M
+pub operand_name_at_spec : {M : Type 1} → statement M
 unfolding operand_name_at
-operand-name-at-spec =
+operand_name_at_spec =
     tie.close
     (tie.spec
     (λ c. search rules)

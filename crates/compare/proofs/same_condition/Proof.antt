@@ -14,6 +14,6 @@ told : (a b : List ℕ) (x y : Condition) {of-x of-y : Entry} {r : Bool} → of-
 unfolding same_condition
 told a b x y d e f = rw (← d, ← e) f
 
-pub same-condition-spec : {M : Type 1} → statement M
-same-condition-spec =
+pub same_condition_spec : {M : Type 1} → statement M
+same_condition_spec =
     tie.close (tie.spec (λ c κs. search rules) (λ c κs. search rules) (λ c κs. search rules) (λ c. search (rules, told)))

@@ -26,8 +26,8 @@ module _ (a b : List ℕ) (x y : Entry) {r : Bool} (rows : r ≡ same_bytes x.ro
     unfolding same_entry
     by-second k e = rw (sym rows ∙ not-false r h, sym firsts ∙ not-false s k) e
 
-pub same-entry-spec : {M : Type 1} → statement M
-same-entry-spec =
+pub same_entry_spec : {M : Type 1} → statement M
+same_entry_spec =
     tie.close
     (tie.spec
     (λ c κs. search rules)

@@ -14,8 +14,8 @@ told : (a b : List ℕ) (x y : Name) {p q : List ℕ} {r : Bool} → p ≡ part_
 unfolding name_in
 told a b x y d e f = rw (← d, ← e) f
 
-pub same-names-spec : {M : Type 1} → statement M
-same-names-spec =
+pub same_names_spec : {M : Type 1} → statement M
+same_names_spec =
     tie.close
     (tie.spec
     (λ c. search rules)

@@ -14,6 +14,6 @@ told : (a b : List ℕ) (x y : Trigger) {of-x of-y : Entry} {r : Bool} → of-x 
 unfolding same_trigger
 told a b x y d e f = rw (← d, ← e) f
 
-pub same-trigger-spec : {M : Type 1} → statement M
-same-trigger-spec =
+pub same_trigger_spec : {M : Type 1} → statement M
+same_trigger_spec =
     tie.close (tie.spec (λ c κs. search rules) (λ c κs. search rules) (λ c κs. search rules) (λ c. search (rules, told)))

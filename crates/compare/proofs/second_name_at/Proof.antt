@@ -4,8 +4,8 @@ use Rattle.compare.specs.Rows.{second_name_at}
 use Rattle.compare.proofs.second_name_at.Statement.{statement}
 use Rattle.compare.proofs.second_name_at.Tie as tie
 
-pub second-name-at-spec : {M : Type 1} → statement M
+pub second_name_at_spec : {M : Type 1} → statement M
 unfolding second_name_at
-second-name-at-spec =
+second_name_at_spec =
     tie.close
     (tie.spec (λ c. search rules) (λ c κs. search rules) (λ c. (search steps, search rules)) (λ c. (search steps, search rules)))

@@ -16,7 +16,7 @@ made : (x : Trigger) {row : List ℕ} {first : ℕ} {r : Entry} → row ≡ whol
     r ≡ entry_at row first 0 → r ≡ trigger_entry x
 made x d e f = f ∙ rw (e, d) (trigger_entry_lem x)
 
-pub trigger-entry-spec : {M : Type 1} → statement M
-trigger-entry-spec =
+pub trigger_entry_spec : {M : Type 1} → statement M
+trigger_entry_spec =
     tie.close
     (tie.spec (λ c κs. search rules) (λ c. search rules) (λ c κs. search rules) (λ c κs. search rules) (λ c. search (rules, made)))

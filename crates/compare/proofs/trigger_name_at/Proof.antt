@@ -4,9 +4,9 @@ use Rattle.compare.specs.Rows.{trigger_name_at}
 use Rattle.compare.proofs.trigger_name_at.Statement.{statement}
 use Rattle.compare.proofs.trigger_name_at.Tie as tie
 
-pub trigger-name-at-spec : {M : Type 1} → statement M
+pub trigger_name_at_spec : {M : Type 1} → statement M
 unfolding trigger_name_at
-trigger-name-at-spec =
+trigger_name_at_spec =
     tie.close
     (tie.spec
     (λ c. (search steps, search rules))

@@ -4,9 +4,9 @@ use Rattle.compare.specs.Rows.{without_name}
 use Rattle.compare.proofs.without_name.Statement.{statement}
 use Rattle.compare.proofs.without_name.Tie as tie
 
-pub without-name-spec : {M : Type 1} → statement M
+pub without_name_spec : {M : Type 1} → statement M
 unfolding without_name
-without-name-spec =
+without_name_spec =
     tie.close
     (tie.spec
     (λ c. search steps)

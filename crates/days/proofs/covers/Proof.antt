@@ -3,6 +3,6 @@ use Rattle.days.specs.Read.{covers}
 use Rattle.days.proofs.covers.Statement.{statement}
 use Rattle.days.proofs.covers.Tie as tie
 
-pub covers-spec : {M : Type 1} → statement M
+pub covers_spec : {M : Type 1} → statement M
 unfolding covers
-covers-spec = tie.close (tie.spec (λ c. search tests) (λ c. search tests) (λ c. search tests) (λ c. search tests))
+covers_spec = tie.close (tie.spec (λ c. search tests) (λ c. search tests) (λ c. search tests) (λ c. search tests))

@@ -4,6 +4,6 @@ use Rattle.days.specs.Read.{day_at}
 use Rattle.days.proofs.day_at.Statement.{statement}
 use Rattle.days.proofs.day_at.Tie as tie
 
-pub day-at-spec : {M : Type 1} → statement M
+pub day_at_spec : {M : Type 1} → statement M
 unfolding day_at
-day-at-spec = tie.close (tie.spec (λ c. search rules) (λ c κs. search rules) (λ c. search chain))
+day_at_spec = tie.close (tie.spec (λ c. search rules) (λ c κs. search rules) (λ c. search chain))

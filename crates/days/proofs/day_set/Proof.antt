@@ -14,8 +14,8 @@ invariant-loop text words days₀ p₀ left₀ days p left =
 abbrev decreases-loop : tie.decreases-loop
 decreases-loop text words days₀ p₀ left₀ days p left = left
 
-pub day-set-spec : {M : Type 1} → statement M
-day-set-spec =
+pub day_set_spec : {M : Type 1} → statement M
+day_set_spec =
     tie.close
     (tie.spec
     invariant-loop

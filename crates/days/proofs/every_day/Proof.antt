@@ -4,6 +4,6 @@ use Rattle.days.specs.Days.{days_of, every_day}
 use Rattle.days.proofs.every_day.Statement.{statement}
 use Rattle.days.proofs.every_day.Tie as tie
 
-pub every-day-spec : {M : Type 1} → statement M
+pub every_day_spec : {M : Type 1} → statement M
 unfolding every_day days_of bits_from
-every-day-spec = tie.close (tie.spec (λ c. refl))
+every_day_spec = tie.close (tie.spec (λ c. refl))

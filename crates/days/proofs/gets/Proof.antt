@@ -4,8 +4,8 @@ use Rattle.days.specs.Read.{gets_day}
 use Rattle.days.proofs.gets.Statement.{statement}
 use Rattle.days.proofs.gets.Tie as tie
 
-pub gets-spec : {M : Type 1} → statement M
+pub gets_spec : {M : Type 1} → statement M
 unfolding gets_day
-gets-spec =
+gets_spec =
     tie.close
     (tie.spec (λ c κs. search rules) (λ c. search (rules, told-yes)) (λ c κs. search rules) (λ c. search (rules, told-no)))

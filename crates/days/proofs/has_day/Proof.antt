@@ -12,5 +12,5 @@ known : (days : Days) (d : ℕ) → eqb (bit_and (days.sum / 2 ^ d) 1) 1 ≡ has
 unfolding has_day
 known days d = rw (and_mask (days.sum / 2 ^ d) 1)
 
-pub has-day-spec : {M : Type 1} → statement M
-has-day-spec = tie.close (tie.spec (λ c. search rules) (λ c. search (rules, known)))
+pub has_day_spec : {M : Type 1} → statement M
+has_day_spec = tie.close (tie.spec (λ c. search rules) (λ c. search (rules, known)))

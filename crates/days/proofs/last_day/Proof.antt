@@ -4,9 +4,9 @@ use Rattle.days.specs.Read.{last_day}
 use Rattle.days.proofs.last_day.Statement.{statement}
 use Rattle.days.proofs.last_day.Tie as tie
 
-pub last-day-spec : {M : Type 1} → statement M
+pub last_day_spec : {M : Type 1} → statement M
 unfolding last_day
-last-day-spec =
+last_day_spec =
     tie.close
     (tie.spec
     (λ c κs. search rules)

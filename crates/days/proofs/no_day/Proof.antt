@@ -5,6 +5,6 @@ use Rattle.days.specs.Read.{no_day}
 use Rattle.days.proofs.no_day.Statement.{statement}
 use Rattle.days.proofs.no_day.Tie as tie
 
-pub no-day-spec : {M : Type 1} → statement M
+pub no_day_spec : {M : Type 1} → statement M
 unfolding no_day days_of bits_from
-no-day-spec = tie.close (tie.spec (λ c. refl))
+no_day_spec = tie.close (tie.spec (λ c. refl))

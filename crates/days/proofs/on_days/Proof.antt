@@ -5,9 +5,9 @@ use Rattle.days.proofs.DaysChain.{days-ok, days-same, days-made}
 use Rattle.days.proofs.on_days.Statement.{statement}
 use Rattle.days.proofs.on_days.Tie as tie
 
-pub on-days-spec : {M : Type 1} → statement M
+pub on_days_spec : {M : Type 1} → statement M
 unfolding on_days
-on-days-spec =
+on_days_spec =
     tie.close
     (tie.spec
     (λ c. search rules)

@@ -5,9 +5,9 @@ use Rattle.days.proofs.DaysChain.{days-ok, days-no, days-made}
 use Rattle.days.proofs.range_at.Statement.{statement}
 use Rattle.days.proofs.range_at.Tie as tie
 
-pub range-at-spec : {M : Type 1} → statement M
+pub range_at_spec : {M : Type 1} → statement M
 unfolding range_at
-range-at-spec =
+range_at_spec =
     tie.close
     (tie.spec
     (λ c κs. search rules)

@@ -11,8 +11,8 @@ invariant-loop days from to sum₀ left₀ sum left = Summed (gets_day days from
 abbrev decreases-loop : tie.decreases-loop
 decreases-loop days from to sum₀ left₀ sum left = left
 
-pub with-range-spec : {M : Type 1} → statement M
-with-range-spec =
+pub with_range_spec : {M : Type 1} → statement M
+with_range_spec =
     tie.close
     (tie.spec
     invariant-loop

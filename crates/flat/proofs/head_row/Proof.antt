@@ -4,9 +4,9 @@ use Rattle.flat.proofs.EntryLaws.{entries}
 use Rattle.flat.proofs.head_row.Statement.{statement}
 use Rattle.flat.proofs.head_row.Tie as tie
 
-pub head-row-spec : {M : Type 1} → statement M
+pub head_row_spec : {M : Type 1} → statement M
 unfolding head_row
-head-row-spec =
+head_row_spec =
     tie.close
     (tie.spec
     (λ c κs. search rules)

@@ -4,9 +4,9 @@ use Rattle.flat.proofs.EntryLaws.{answer}
 use Rattle.flat.proofs.put_answer.Statement.{statement}
 use Rattle.flat.proofs.put_answer.Tie as tie
 
-pub put-answer-spec : {M : Type 1} → statement M
+pub put_answer_spec : {M : Type 1} → statement M
 unfolding list_rows first_trigger first_condition row_count row_words
-put-answer-spec =
+put_answer_spec =
     tie.close
     (tie.spec
     (λ c. search answer)

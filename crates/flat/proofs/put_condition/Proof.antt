@@ -3,8 +3,8 @@ use Rattle.flat.proofs.EntryLaws.{entries}
 use Rattle.flat.proofs.put_condition.Statement.{statement}
 use Rattle.flat.proofs.put_condition.Tie as tie
 
-pub put-condition-spec : {M : Type 1} → statement M
-put-condition-spec =
+pub put_condition_spec : {M : Type 1} → statement M
+put_condition_spec =
     tie.close
     (tie.spec
     (λ c κs. search rules)

@@ -15,9 +15,9 @@ invariant-loop out₀ list i₀ out i = (i ≤ 4) × (length out ≡ length out�
 abbrev decreases-loop : tie.decreases-loop
 decreases-loop out₀ list i₀ out i = 4 - i
 
-pub put-conditions-spec : {M : Type 1} → statement M
+pub put_conditions_spec : {M : Type 1} → statement M
 unfolding list_rows first_trigger first_condition condition_row with_conditions
-put-conditions-spec =
+put_conditions_spec =
     tie.close
     (tie.spec
     invariant-loop

@@ -3,8 +3,8 @@ use Rattle.flat.proofs.EntryLaws.{entries}
 use Rattle.flat.proofs.put_trigger.Statement.{statement}
 use Rattle.flat.proofs.put_trigger.Tie as tie
 
-pub put-trigger-spec : {M : Type 1} → statement M
-put-trigger-spec =
+pub put_trigger_spec : {M : Type 1} → statement M
+put_trigger_spec =
     tie.close
     (tie.spec
     (λ c κs. search rules)

@@ -15,9 +15,9 @@ invariant-loop out₀ list i₀ out i = (i ≤ 4) × (length out ≡ length out�
 abbrev decreases-loop : tie.decreases-loop
 decreases-loop out₀ list i₀ out i = 4 - i
 
-pub put-triggers-spec : {M : Type 1} → statement M
+pub put_triggers_spec : {M : Type 1} → statement M
 unfolding list_rows first_trigger trigger_row with_triggers
-put-triggers-spec =
+put_triggers_spec =
     tie.close
     (tie.spec
     invariant-loop

@@ -4,8 +4,8 @@ use Rattle.join.proofs.CallLaws.{finished-triggers, finished-conditions, none-fe
 use Rattle.join.proofs.both_read.Statement.{statement}
 use Rattle.join.proofs.both_read.Tie as tie
 
-pub both-read-spec : {M : Type 1} → statement M
-both-read-spec =
+pub both_read_spec : {M : Type 1} → statement M
+both_read_spec =
     tie.close
     (tie.spec
     (λ c κs. (finished-conditions c.before.before.before.before.requires.0, finished-conditions c.before.before.before.before.requires.1))

@@ -11,8 +11,8 @@ invariant-loop first second text x kept i₀ i = Left first second text x kept i
 abbrev decreases-loop : tie.decreases-loop
 decreases-loop first second text x kept i₀ i = kept.count - i
 
-pub is-kept-spec : {M : Type 1} → statement M
-is-kept-spec =
+pub is_kept_spec : {M : Type 1} → statement M
+is_kept_spec =
     tie.close
     (tie.spec
     invariant-loop

@@ -18,8 +18,8 @@ module _ (first second text : List ℕ) (from : ℕ) (y : Trigger) (x : Entry) {
   in_second : (from ≡ 1 → ⊥) → r ≡ same_entry second text e x → r ≡ same_entry (text_of first second from) text (trigger_entry y) x
   in_second h s = s ∙ rw (its, ne_eqb from 1 h)
 
-pub is-same-spec : {M : Type 1} → statement M
-is-same-spec =
+pub is_same_spec : {M : Type 1} → statement M
+is_same_spec =
     tie.close
     (tie.spec
     (λ c κs. search rules)

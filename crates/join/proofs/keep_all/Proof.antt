@@ -16,8 +16,8 @@ invariant-loop first second from text list more₀ i₀ more i =
 abbrev decreases-loop : tie.decreases-loop
 decreases-loop first second from text list more₀ i₀ more i = list.count - i
 
-pub keep-all-spec : {M : Type 1} → statement M
-keep-all-spec =
+pub keep_all_spec : {M : Type 1} → statement M
+keep_all_spec =
     tie.close
     (tie.spec
     invariant-loop

@@ -4,6 +4,6 @@ use Rattle.join.specs.Kept.{kept_of}
 use Rattle.join.proofs.none_kept.Statement.{statement}
 use Rattle.join.proofs.none_kept.Tie as tie
 
-pub none-kept-spec : {M : Type 1} → statement M
+pub none_kept_spec : {M : Type 1} → statement M
 unfolding kept_of padded
-none-kept-spec = tie.close (tie.spec (λ c. refl))
+none_kept_spec = tie.close (tie.spec (λ c. refl))

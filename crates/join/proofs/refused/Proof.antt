@@ -4,6 +4,6 @@ use Rattle.join.specs.Join.{refused_join}
 use Rattle.join.proofs.refused.Statement.{statement}
 use Rattle.join.proofs.refused.Tie as tie
 
-pub refused-spec : {M : Type 1} → statement M
+pub refused_spec : {M : Type 1} → statement M
 unfolding refused_join padded
-refused-spec = tie.close (tie.spec (λ c. refl))
+refused_spec = tie.close (tie.spec (λ c. refl))

@@ -15,6 +15,6 @@ empty : (number : ℕ) {xs : Triggers} {ys : Conditions} {r : Joined} → xs ≡
 unfolding refused_with
 empty number e f h = h ∙ rw (e, f)
 
-pub refused-both-spec : {M : Type 1} → statement M
-refused-both-spec =
+pub refused_both_spec : {M : Type 1} → statement M
+refused_both_spec =
     tie.close (tie.spec (λ c κs. search rules) (λ c κs. search rules) (λ c κs. search rules) (λ c. search empty))

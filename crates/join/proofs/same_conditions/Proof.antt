@@ -13,8 +13,8 @@ invariant-loop first second xs ys i₀ i =
 abbrev decreases-loop : tie.decreases-loop
 decreases-loop first second xs ys i₀ i = xs.count - i
 
-pub same-conditions-spec : {M : Type 1} → statement M
-same-conditions-spec =
+pub same_conditions_spec : {M : Type 1} → statement M
+same_conditions_spec =
     tie.close
     (tie.spec
     invariant-loop

@@ -14,8 +14,8 @@ invariant-loop list topics₀ i₀ topics i =
 abbrev decreases-loop : tie.decreases-loop
 decreases-loop list topics₀ i₀ topics i = list.count - i
 
-pub topics-of-spec : {M : Type 1} → statement M
-topics-of-spec =
+pub topics_of_spec : {M : Type 1} → statement M
+topics_of_spec =
     tie.close
     (tie.spec
     invariant-loop

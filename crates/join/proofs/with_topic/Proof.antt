@@ -4,8 +4,8 @@ use Rattle.join.proofs.TopicLaws.{topic-none, topic-more}
 use Rattle.join.proofs.with_topic.Statement.{statement}
 use Rattle.join.proofs.with_topic.Tie as tie
 
-pub with-topic-spec : {M : Type 1} → statement M
-with-topic-spec =
+pub with_topic_spec : {M : Type 1} → statement M
+with_topic_spec =
     tie.close
     (tie.spec
     (λ c. search rules)

@@ -3,6 +3,6 @@ use Rattle.model.specs.Lists.{padded, conditions_of}
 use Rattle.model.proofs.no_conditions.Statement.{statement}
 use Rattle.model.proofs.no_conditions.Tie as tie
 
-pub no-conditions-spec : {M : Type 1} → statement M
+pub no_conditions_spec : {M : Type 1} → statement M
 unfolding conditions_of padded
-no-conditions-spec = tie.close (tie.spec (λ c. refl))
+no_conditions_spec = tie.close (tie.spec (λ c. refl))

@@ -8,8 +8,8 @@ use Rattle.replay.proofs.named.Tie as tie
 own-fits : {n : ℕ} (ls : List (List ℕ)) → n ≡ primary_line ls → Fits w8 n
 own-fits ls e = record { fits = omega (arith, e, primary_line_in ls) }
 
-pub named-spec : {M : Type 1} → statement M
-named-spec =
+pub named_spec : {M : Type 1} → statement M
+named_spec =
     tie.close
     (tie.spec
     (λ c κs. search rules)

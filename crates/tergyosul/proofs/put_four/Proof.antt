@@ -8,9 +8,9 @@ use Rattle.tergyosul.specs.Room.{by_room}
 use Rattle.tergyosul.proofs.put_four.Statement.{statement}
 use Rattle.tergyosul.proofs.put_four.Tie as tie
 
-pub put-four-spec : {M : Type 1} → statement M
+pub put_four_spec : {M : Type 1} → statement M
 unfolding four_first by_room
-put-four-spec =
+put_four_spec =
     tie.close
     (tie.spec
     (λ c. search steps)

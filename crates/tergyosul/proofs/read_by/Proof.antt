@@ -18,8 +18,8 @@ with-room c =
     let d = c.before.before.before.before.before.before.read_by.ensures in
     (room _ _ _ long (ap (λ (a : Answer). a.number) d.0.0), (room _ _ _ long d.0.1, c.before.before.put-answer.ensures ∙ ap (flat c.before.before.before.before.before.before.before.before.before.before.before.before.before.before.args.answer.now) d.0.0))
 
-pub read-by-spec : {M : Type 1} → statement M
-read-by-spec =
+pub read_by_spec : {M : Type 1} → statement M
+read_by_spec =
     tie.close
     (tie.spec
     without-room

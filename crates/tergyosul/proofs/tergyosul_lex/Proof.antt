@@ -32,8 +32,8 @@ module _ (e v : List ℕ) {x y : Lexed} {w u a : List ℕ} (long : lex_answer_wo
   unfolding lex_number lex_flat
   refused d h k g = (room _ _ _ long (rw (sym d ∙ h)), (room _ _ _ long k, g ∙ rw (sym d ∙ h)))
 
-pub tergyosul-lex-spec : {M : Type 1} → statement M
-tergyosul-lex-spec =
+pub tergyosul_lex_spec : {M : Type 1} → statement M
+tergyosul_lex_spec =
     tie.close
     (tie.spec
     (λ c. let short = c.if1.true in (no_room_lem _ _ _ _ short, (no_room_lem _ _ _ _ short, unwritten _ _ short)))

@@ -140,9 +140,9 @@ advance-meets : {M : Type 1} {𝓤 : Ura M} (𝓛 : Logic 𝓤) (mem : Memory �
 advance-meets {𝓤 = 𝓤} 𝓛 mem run 𝓣 known = walk_Meets 𝓛 advance.ended stayed (Goes-none 𝓛 1 B yes (λ κs x f. refl), tt) (advance.clauses 𝓛 mem run) (WpFn 𝓤 𝓛.H 𝓣.C 𝓣.Λ code.function) (WpFn-mono 𝓤 𝓛.H 𝓛.laws 𝓣 code.function)
     (advance-walks 𝓛 mem run 𝓣.C 𝓣.Λ (fm_of 𝓤 𝓛.H 𝓛.laws 𝓣) known)
 
-pub advance-spec : {M : Type 1} → stated.statement M
+pub advance_spec : {M : Type 1} → stated.statement M
 unfolding code.routine tables_of
-advance-spec 𝓤 𝓛 𝓜 𝓡 =
+advance_spec 𝓤 𝓛 𝓜 𝓡 =
     entered 𝓤 𝓛.H (triple_of 𝓛 advance.signature (advance.spec 𝓛 𝓜.mem 𝓡.run))
     (tables 𝓤 𝓛.H 𝓜 𝓡 code.env).C (tables 𝓤 𝓛.H 𝓜 𝓡 code.env).Λ #token-reader·advance code.function (code.unfolded 𝓤 𝓛.H 𝓜 𝓡)
     (advance-meets 𝓛 𝓜.mem 𝓡.run (tables_of 𝓤 𝓛.H 𝓜 (tables 𝓤 𝓛.H 𝓜 𝓡 code.env))

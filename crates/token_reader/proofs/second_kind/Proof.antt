@@ -190,9 +190,9 @@ second_meets : {M : Type 1} {𝓤 : Ura M} (𝓛 : Logic 𝓤) (mem : Memory →
 second_meets {𝓤 = 𝓤} 𝓛 mem run 𝓣 known-new known-advance known-peek = walk_Meets 𝓛 second.ended stayed (Goes-none_slice 𝓛 1 (0 ∷ []) tt (plain (λ _. u32)) yes, tt) (second.clauses 𝓛 mem run) (WpFn 𝓤 𝓛.H 𝓣.C 𝓣.Λ code.function) (WpFn-mono 𝓤 𝓛.H 𝓛.laws 𝓣 code.function)
     (second_walks 𝓛 mem run 𝓣.C 𝓣.Λ (fm_of 𝓤 𝓛.H 𝓛.laws 𝓣) known-new known-advance known-peek)
 
-pub second-kind-spec : {M : Type 1} → stated.statement M
+pub second_kind_spec : {M : Type 1} → stated.statement M
 unfolding code.routine tables_of
-second-kind-spec 𝓤 𝓛 𝓜 𝓡 =
+second_kind_spec 𝓤 𝓛 𝓜 𝓡 =
     entered 𝓤 𝓛.H (triple_of 𝓛 second.signature (second.spec 𝓛 𝓜.mem 𝓡.run))
     (tables 𝓤 𝓛.H 𝓜 𝓡 code.env).C (tables 𝓤 𝓛.H 𝓜 𝓡 code.env).Λ #token-reader·second-kind code.function (code.unfolded 𝓤 𝓛.H 𝓜 𝓡)
     (second_meets 𝓛 𝓜.mem 𝓡.run (tables_of 𝓤 𝓛.H 𝓜 (tables 𝓤 𝓛.H 𝓜 𝓡 code.env))

@@ -5,8 +5,8 @@ use Rattle.writer.proofs.WriteLaws.{too_small, miscounted, not-possible, all-pos
 use Rattle.writer.proofs.write_lists.Statement.{statement}
 use Rattle.writer.proofs.write_lists.Tie as tie
 
-pub write-lists-spec : {M : Type 1} → statement M
-write-lists-spec =
+pub write_lists_spec : {M : Type 1} → statement M
+write_lists_spec =
     tie.close
     (tie.spec
     (λ c κs. search rules)

@@ -4,8 +4,8 @@ use Rattle.writer.proofs.WriteLaws.{rule_fits, length_in_word, unnamed, written}
 use Rattle.writer.proofs.write_possible.Statement.{statement}
 use Rattle.writer.proofs.write_possible.Tie as tie
 
-pub write-possible-spec : {M : Type 1} → statement M
-write-possible-spec =
+pub write_possible_spec : {M : Type 1} → statement M
+write_possible_spec =
     tie.close
     (tie.spec
     (λ c κs. search rules)

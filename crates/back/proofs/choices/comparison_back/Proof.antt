@@ -3,9 +3,9 @@ use Rattle.flat.specs.Back.{comparison_back, coded}
 use Rattle.back.proofs.choices.comparison_back.Statement.{statement}
 use Rattle.back.proofs.choices.comparison_back.Tie as tie
 
-pub comparison-back-spec : {M : Type 1} → statement M
+pub comparison_back_spec : {M : Type 1} → statement M
 unfolding comparison_back coded
-comparison-back-spec =
+comparison_back_spec =
     tie.close
     (tie.spec
     (λ c. rw c.match.keys1)

@@ -3,6 +3,6 @@ use Rattle.flat.specs.Back.{hcl_back, coded}
 use Rattle.back.proofs.choices.hcl_back.Statement.{statement}
 use Rattle.back.proofs.choices.hcl_back.Tie as tie
 
-pub hcl-back-spec : {M : Type 1} → statement M
+pub hcl_back_spec : {M : Type 1} → statement M
 unfolding hcl_back coded
-hcl-back-spec = tie.close (tie.spec (λ c. rw c.match.keys1) (λ c. search tests))
+hcl_back_spec = tie.close (tie.spec (λ c. rw c.match.keys1) (λ c. search tests))

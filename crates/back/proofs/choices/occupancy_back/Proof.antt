@@ -3,6 +3,6 @@ use Rattle.flat.specs.Back.{occupancy_back, coded}
 use Rattle.back.proofs.choices.occupancy_back.Statement.{statement}
 use Rattle.back.proofs.choices.occupancy_back.Tie as tie
 
-pub occupancy-back-spec : {M : Type 1} → statement M
+pub occupancy_back_spec : {M : Type 1} → statement M
 unfolding occupancy_back coded
-occupancy-back-spec = tie.close (tie.spec (λ c. rw c.match.keys1) (λ c. search tests))
+occupancy_back_spec = tie.close (tie.spec (λ c. rw c.match.keys1) (λ c. search tests))

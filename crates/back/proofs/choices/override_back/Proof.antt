@@ -3,6 +3,6 @@ use Rattle.flat.specs.Back.{override_back, coded}
 use Rattle.back.proofs.choices.override_back.Statement.{statement}
 use Rattle.back.proofs.choices.override_back.Tie as tie
 
-pub override-back-spec : {M : Type 1} → statement M
+pub override_back_spec : {M : Type 1} → statement M
 unfolding override_back coded
-override-back-spec = tie.close (tie.spec (λ c. rw c.match.keys1) (λ c. search tests))
+override_back_spec = tie.close (tie.spec (λ c. rw c.match.keys1) (λ c. search tests))

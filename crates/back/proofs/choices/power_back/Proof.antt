@@ -3,6 +3,6 @@ use Rattle.flat.specs.Back.{power_back, coded}
 use Rattle.back.proofs.choices.power_back.Statement.{statement}
 use Rattle.back.proofs.choices.power_back.Tie as tie
 
-pub power-back-spec : {M : Type 1} → statement M
+pub power_back_spec : {M : Type 1} → statement M
 unfolding power_back coded
-power-back-spec = tie.close (tie.spec (λ c. rw c.match.keys1) (λ c. search tests))
+power_back_spec = tie.close (tie.spec (λ c. rw c.match.keys1) (λ c. search tests))

@@ -5,9 +5,9 @@ use Rattle.flat.specs.Back.{condition_back, headed, coded}
 use Rattle.back.proofs.conditions.condition_back.Statement.{statement}
 use Rattle.back.proofs.conditions.condition_back.Tie as tie
 
-pub condition-back-spec : {M : Type 1} → statement M
+pub condition_back_spec : {M : Type 1} → statement M
 unfolding condition_back headed coded condition_words
-condition-back-spec =
+condition_back_spec =
     tie.close
     (tie.spec
     (λ c. search rules)

@@ -6,9 +6,9 @@ use Rattle.back.proofs.NumberLaws.{complement-fits, low_signed, high-signed}
 use Rattle.back.proofs.numbers.number_back.Statement.{statement}
 use Rattle.back.proofs.numbers.number_back.Tie as tie
 
-pub number-back-spec : {M : Type 1} → statement M
+pub number_back_spec : {M : Type 1} → statement M
 unfolding number_back
-number-back-spec =
+number_back_spec =
     tie.close
     (tie.spec
     (λ c. search rules)

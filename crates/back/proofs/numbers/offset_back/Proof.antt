@@ -6,9 +6,9 @@ use Rattle.back.proofs.NumberLaws.{complement-fits, low_signed, high-signed}
 use Rattle.back.proofs.numbers.offset_back.Statement.{statement}
 use Rattle.back.proofs.numbers.offset_back.Tie as tie
 
-pub offset-back-spec : {M : Type 1} → statement M
+pub offset_back_spec : {M : Type 1} → statement M
 unfolding offset_back
-offset-back-spec =
+offset_back_spec =
     tie.close
     (tie.spec
     (λ c. search rules)

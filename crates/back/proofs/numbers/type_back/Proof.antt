@@ -3,6 +3,6 @@ use Rattle.flat.specs.Back.{type_back}
 use Rattle.back.proofs.numbers.type_back.Statement.{statement}
 use Rattle.back.proofs.numbers.type_back.Tie as tie
 
-pub type-back-spec : {M : Type 1} → statement M
+pub type_back_spec : {M : Type 1} → statement M
 unfolding type_back
-type-back-spec = tie.close (tie.spec (λ c. search tests) (λ c. search tests))
+type_back_spec = tie.close (tie.spec (λ c. search tests) (λ c. search tests))

@@ -5,9 +5,9 @@ use Rattle.flat.specs.Back.{bound_back, headed, coded}
 use Rattle.back.proofs.parts.bound_back.Statement.{statement}
 use Rattle.back.proofs.parts.bound_back.Tie as tie
 
-pub bound-back-spec : {M : Type 1} → statement M
+pub bound_back_spec : {M : Type 1} → statement M
 unfolding bound_back headed coded bound_words
-bound-back-spec =
+bound_back_spec =
     tie.close
     (tie.spec
     (λ c. rw c.match.keys1)

@@ -4,9 +4,9 @@ use Rattle.flat.specs.Back.{event_back, headed, coded}
 use Rattle.back.proofs.parts.event_back.Statement.{statement}
 use Rattle.back.proofs.parts.event_back.Tie as tie
 
-pub event-back-spec : {M : Type 1} → statement M
+pub event_back_spec : {M : Type 1} → statement M
 unfolding event_back headed coded event_words
-event-back-spec =
+event_back_spec =
     tie.close
     (tie.spec
     (λ c. rw c.match.keys1)

@@ -5,9 +5,9 @@ use Rattle.flat.specs.Back.{operand_back, headed, coded}
 use Rattle.back.proofs.parts.operand_back.Statement.{statement}
 use Rattle.back.proofs.parts.operand_back.Tie as tie
 
-pub operand-back-spec : {M : Type 1} → statement M
+pub operand_back_spec : {M : Type 1} → statement M
 unfolding operand_back headed coded operand_words
-operand-back-spec =
+operand_back_spec =
     tie.close
     (tie.spec
     (λ c. rw c.match.keys1)

@@ -4,9 +4,9 @@ use Rattle.flat.specs.Back.{reading_back, headed, coded}
 use Rattle.back.proofs.parts.reading_back.Statement.{statement}
 use Rattle.back.proofs.parts.reading_back.Tie as tie
 
-pub reading-back-spec : {M : Type 1} → statement M
+pub reading_back_spec : {M : Type 1} → statement M
 unfolding reading_back headed coded reading_words
-reading-back-spec =
+reading_back_spec =
     tie.close
     (tie.spec
     (λ c. rw c.match.keys1)

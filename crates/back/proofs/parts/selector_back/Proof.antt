@@ -5,9 +5,9 @@ use Rattle.flat.specs.Back.{selector_back, headed, coded}
 use Rattle.back.proofs.parts.selector_back.Statement.{statement}
 use Rattle.back.proofs.parts.selector_back.Tie as tie
 
-pub selector-back-spec : {M : Type 1} → statement M
+pub selector_back_spec : {M : Type 1} → statement M
 unfolding selector_back headed coded selector_words
-selector-back-spec =
+selector_back_spec =
     tie.close
     (tie.spec
     (λ c. rw c.match.keys1)

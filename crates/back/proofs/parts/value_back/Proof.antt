@@ -5,9 +5,9 @@ use Rattle.flat.specs.Back.{value_back, headed, coded}
 use Rattle.back.proofs.parts.value_back.Statement.{statement}
 use Rattle.back.proofs.parts.value_back.Tie as tie
 
-pub value-back-spec : {M : Type 1} → statement M
+pub value_back_spec : {M : Type 1} → statement M
 unfolding value_back headed coded value_words
-value-back-spec =
+value_back_spec =
     tie.close
     (tie.spec
     (λ c κs. search rules)

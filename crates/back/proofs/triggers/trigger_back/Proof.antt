@@ -5,9 +5,9 @@ use Rattle.flat.specs.Back.{trigger_back, headed, coded}
 use Rattle.back.proofs.triggers.trigger_back.Statement.{statement}
 use Rattle.back.proofs.triggers.trigger_back.Tie as tie
 
-pub trigger-back-spec : {M : Type 1} → statement M
+pub trigger_back_spec : {M : Type 1} → statement M
 unfolding trigger_back headed coded trigger_words
-trigger-back-spec =
+trigger_back_spec =
     tie.close
     (tie.spec
     (λ c. search rules)

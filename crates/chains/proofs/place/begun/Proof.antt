@@ -3,8 +3,8 @@ use Rattle.chains.proofs.PlaceLaws.{arms}
 use Rattle.chains.proofs.place.begun.Statement.{statement}
 use Rattle.chains.proofs.place.begun.Tie as tie
 
-pub begun-spec : {M : Type 1} → statement M
-begun-spec =
+pub begun_spec : {M : Type 1} → statement M
+begun_spec =
     tie.close
     (tie.spec
     (λ c κs. search rules)

@@ -3,8 +3,8 @@ use Rattle.chains.proofs.PlaceLaws.{arms}
 use Rattle.chains.proofs.place.behind_level.Statement.{statement}
 use Rattle.chains.proofs.place.behind_level.Tie as tie
 
-pub behind-level-spec : {M : Type 1} → statement M
-behind-level-spec =
+pub behind_level_spec : {M : Type 1} → statement M
+behind_level_spec =
     tie.close
     (tie.spec
     (λ c κs. search rules)

@@ -3,8 +3,8 @@ use Rattle.chains.proofs.PlaceLaws.{arms}
 use Rattle.chains.proofs.place.compared.Statement.{statement}
 use Rattle.chains.proofs.place.compared.Tie as tie
 
-pub compared-spec : {M : Type 1} → statement M
-compared-spec =
+pub compared_spec : {M : Type 1} → statement M
+compared_spec =
     tie.close
     (tie.spec
     (λ c κs. search rules)

@@ -3,8 +3,8 @@ use Rattle.chains.proofs.PlaceLaws.{arms}
 use Rattle.chains.proofs.place.lengths.Statement.{statement}
 use Rattle.chains.proofs.place.lengths.Tie as tie
 
-pub lengths-spec : {M : Type 1} → statement M
-lengths-spec =
+pub lengths_spec : {M : Type 1} → statement M
+lengths_spec =
     tie.close
     (tie.spec
     (λ c. search rules)

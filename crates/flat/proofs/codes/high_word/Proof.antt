@@ -4,9 +4,9 @@ use borrow.Author.Rules.{rules}
 use Rattle.flat.proofs.codes.high_word.Statement.{statement}
 use Rattle.flat.proofs.codes.high_word.Tie as tie
 
-pub high-word-spec : {M : Type 1} → statement M
+pub high_word_spec : {M : Type 1} → statement M
 unfolding high_word
-high-word-spec =
+high_word_spec =
     tie.close
     (tie.spec
     (λ c κs. search rules)

@@ -4,9 +4,9 @@ use borrow.Author.Rules.{rules}
 use Rattle.flat.proofs.codes.low_word.Statement.{statement}
 use Rattle.flat.proofs.codes.low_word.Tie as tie
 
-pub low-word-spec : {M : Type 1} → statement M
+pub low_word_spec : {M : Type 1} → statement M
 unfolding low_word
-low-word-spec =
+low_word_spec =
     tie.close
     (tie.spec
     (λ c κs. search rules)

@@ -7,8 +7,8 @@ use Rattle.flat.proofs.SignedLaws.{widened}
 use Rattle.flat.proofs.codes.offset.Statement.{statement}
 use Rattle.flat.proofs.codes.offset.Tie as tie
 
-pub offset-spec : {M : Type 1} → statement M
-offset-spec =
+pub offset_spec : {M : Type 1} → statement M
+offset_spec =
     tie.close
     (tie.spec
     (λ c. rw (to_z-of_z c.ranges.z) (sfits_widen tt c.ranges.z))

@@ -38,6 +38,6 @@ cast-result-2 c =
 returns-2 : tie.Need-returns-2
 returns-2 c = complement-not_below _ c.if1.false ∙ ap twos_complement (to_z-of_z c.before.ranges.z)
 
-pub twos-complement-spec : {M : Type 1} → statement M
-twos-complement-spec =
+pub twos_complement_spec : {M : Type 1} → statement M
+twos_complement_spec =
     tie.close (tie.spec sub-result cast-result sub-result-2 returns cast-result-2 returns-2)

@@ -4,9 +4,9 @@ use Rattle.flat.proofs.RowLaws.{conditions}
 use Rattle.flat.proofs.conditions.condition_row.Statement.{statement}
 use Rattle.flat.proofs.conditions.condition_row.Tie as tie
 
-pub condition-row-spec : {M : Type 1} → statement M
+pub condition_row_spec : {M : Type 1} → statement M
 unfolding condition_words
-condition-row-spec =
+condition_row_spec =
     tie.close
     (tie.spec
     (λ c. search rules)

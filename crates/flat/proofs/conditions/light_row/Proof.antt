@@ -4,9 +4,9 @@ use Rattle.flat.proofs.RowLaws.{conditions}
 use Rattle.flat.proofs.conditions.light_row.Statement.{statement}
 use Rattle.flat.proofs.conditions.light_row.Tie as tie
 
-pub light-row-spec : {M : Type 1} → statement M
+pub light_row_spec : {M : Type 1} → statement M
 unfolding condition_words
-light-row-spec =
+light_row_spec =
     tie.close
     (tie.spec
     (λ c κs. search rules)

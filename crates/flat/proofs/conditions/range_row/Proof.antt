@@ -4,9 +4,9 @@ use Rattle.flat.proofs.RowLaws.{conditions}
 use Rattle.flat.proofs.conditions.range_row.Statement.{statement}
 use Rattle.flat.proofs.conditions.range_row.Tie as tie
 
-pub range-row-spec : {M : Type 1} → statement M
+pub range_row_spec : {M : Type 1} → statement M
 unfolding condition_words
-range-row-spec =
+range_row_spec =
     tie.close
     (tie.spec
     (λ c κs. search rules)

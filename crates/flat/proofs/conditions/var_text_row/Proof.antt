@@ -4,9 +4,9 @@ use Rattle.flat.proofs.RowLaws.{conditions}
 use Rattle.flat.proofs.conditions.var_text_row.Statement.{statement}
 use Rattle.flat.proofs.conditions.var_text_row.Tie as tie
 
-pub var-text-row-spec : {M : Type 1} → statement M
+pub var_text_row_spec : {M : Type 1} → statement M
 unfolding condition_words operand_words
-var-text-row-spec =
+var_text_row_spec =
     tie.close
     (tie.spec
     (λ c κs. search rules)

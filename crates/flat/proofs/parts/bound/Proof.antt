@@ -4,9 +4,9 @@ use Rattle.flat.proofs.PartLaws.{parts}
 use Rattle.flat.proofs.parts.bound.Statement.{statement}
 use Rattle.flat.proofs.parts.bound.Tie as tie
 
-pub bound-spec : {M : Type 1} → statement M
+pub bound_spec : {M : Type 1} → statement M
 unfolding bound_words
-bound-spec =
+bound_spec =
     tie.close
     (tie.spec
     (λ c. search rules)

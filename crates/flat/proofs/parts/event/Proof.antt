@@ -4,9 +4,9 @@ use Rattle.flat.proofs.PartLaws.{parts}
 use Rattle.flat.proofs.parts.event.Statement.{statement}
 use Rattle.flat.proofs.parts.event.Tie as tie
 
-pub event-spec : {M : Type 1} → statement M
+pub event_spec : {M : Type 1} → statement M
 unfolding event_words
-event-spec =
+event_spec =
     tie.close
     (tie.spec
     (λ c. search rules)

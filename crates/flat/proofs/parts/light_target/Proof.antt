@@ -4,9 +4,9 @@ use Rattle.flat.proofs.PartLaws.{parts}
 use Rattle.flat.proofs.parts.light_target.Statement.{statement}
 use Rattle.flat.proofs.parts.light_target.Tie as tie
 
-pub light-target-spec : {M : Type 1} → statement M
+pub light_target_spec : {M : Type 1} → statement M
 unfolding target_words
-light-target-spec =
+light_target_spec =
     tie.close
     (tie.spec
     (λ c. search rules)

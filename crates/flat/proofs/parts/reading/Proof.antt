@@ -4,9 +4,9 @@ use Rattle.flat.proofs.PartLaws.{parts}
 use Rattle.flat.proofs.parts.reading.Statement.{statement}
 use Rattle.flat.proofs.parts.reading.Tie as tie
 
-pub reading-spec : {M : Type 1} → statement M
+pub reading_spec : {M : Type 1} → statement M
 unfolding reading_words
-reading-spec =
+reading_spec =
     tie.close
     (tie.spec
     (λ c. search rules)

@@ -4,9 +4,9 @@ use Rattle.flat.proofs.PartLaws.{parts}
 use Rattle.flat.proofs.parts.reads.Statement.{statement}
 use Rattle.flat.proofs.parts.reads.Tie as tie
 
-pub reads-spec : {M : Type 1} → statement M
+pub reads_spec : {M : Type 1} → statement M
 unfolding value_words
-reads-spec =
+reads_spec =
     tie.close
     (tie.spec
     (λ c κs. search rules)

@@ -4,9 +4,9 @@ use Rattle.flat.proofs.PartLaws.{parts}
 use Rattle.flat.proofs.parts.selector.Statement.{statement}
 use Rattle.flat.proofs.parts.selector.Tie as tie
 
-pub selector-spec : {M : Type 1} → statement M
+pub selector_spec : {M : Type 1} → statement M
 unfolding selector_words
-selector-spec =
+selector_spec =
     tie.close
     (tie.spec
     (λ c. search rules)

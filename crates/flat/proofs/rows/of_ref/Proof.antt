@@ -2,8 +2,8 @@ use Rattle.flat.proofs.RowLaws.{rows}
 use Rattle.flat.proofs.rows.of_ref.Statement.{statement}
 use Rattle.flat.proofs.rows.of_ref.Tie as tie
 
-pub of-ref-spec : {M : Type 1} → statement M
-of-ref-spec =
+pub of_ref_spec : {M : Type 1} → statement M
+of_ref_spec =
     tie.close
     (tie.spec
     (λ c. search rows depth 16))

@@ -17,9 +17,9 @@ invariant-loop out₀ row words from i₀ out i = (i ≤ row_words) × (out ≡ 
 abbrev decreases-loop : tie.decreases-loop
 decreases-loop out₀ row words from i₀ out i = row_words - i
 
-pub put-row-spec : {M : Type 1} → statement M
+pub put_row_spec : {M : Type 1} → statement M
 unfolding row_set row_words
-put-row-spec =
+put_row_spec =
     tie.close
     (tie.spec
     invariant-loop

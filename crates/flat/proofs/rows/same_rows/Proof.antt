@@ -33,9 +33,9 @@ invariant-loop x y i₀ i = (same_bytes (drop i x) (drop i y) ≡ same_bytes x y
 abbrev decreases-loop : tie.decreases-loop
 decreases-loop x y i₀ i = row_words - i
 
-pub same-rows-spec : {M : Type 1} → statement M
+pub same_rows_spec : {M : Type 1} → statement M
 unfolding row_words
-same-rows-spec =
+same_rows_spec =
     tie.close
     (tie.spec
     invariant-loop

@@ -4,9 +4,9 @@ use Rattle.flat.proofs.RowLaws.{triggers}
 use Rattle.flat.proofs.triggers.event_row.Statement.{statement}
 use Rattle.flat.proofs.triggers.event_row.Tie as tie
 
-pub event-row-spec : {M : Type 1} → statement M
+pub event_row_spec : {M : Type 1} → statement M
 unfolding trigger_words
-event-row-spec =
+event_row_spec =
     tie.close
     (tie.spec
     (λ c κs. search rules)

@@ -4,9 +4,9 @@ use Rattle.flat.proofs.RowLaws.{triggers}
 use Rattle.flat.proofs.triggers.solar_row.Statement.{statement}
 use Rattle.flat.proofs.triggers.solar_row.Tie as tie
 
-pub solar-row-spec : {M : Type 1} → statement M
+pub solar_row_spec : {M : Type 1} → statement M
 unfolding trigger_words
-solar-row-spec =
+solar_row_spec =
     tie.close
     (tie.spec
     (λ c κs. search rules)

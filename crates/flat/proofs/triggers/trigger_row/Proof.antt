@@ -4,9 +4,9 @@ use Rattle.flat.proofs.RowLaws.{triggers}
 use Rattle.flat.proofs.triggers.trigger_row.Statement.{statement}
 use Rattle.flat.proofs.triggers.trigger_row.Tie as tie
 
-pub trigger-row-spec : {M : Type 1} → statement M
+pub trigger_row_spec : {M : Type 1} → statement M
 unfolding trigger_words
-trigger-row-spec =
+trigger_row_spec =
     tie.close
     (tie.spec
     (λ c. search rules)

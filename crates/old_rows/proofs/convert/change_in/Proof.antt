@@ -4,9 +4,9 @@ use Rattle.old_rows.specs.Convert.{change_in}
 use Rattle.old_rows.proofs.convert.change_in.Statement.{statement}
 use Rattle.old_rows.proofs.convert.change_in.Tie as tie
 
-pub change-in-spec : {M : Type 1} → statement M
+pub change_in_spec : {M : Type 1} → statement M
 unfolding change_in
-change-in-spec =
+change_in_spec =
     tie.close
     (tie.spec
     (λ c. search rules)

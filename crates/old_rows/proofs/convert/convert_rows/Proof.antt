@@ -13,8 +13,8 @@ invariant-loop s sheet settings list₀ at₀ list at = Going (view_of settings 
 abbrev decreases-loop : tie.decreases-loop
 decreases-loop s sheet settings list₀ at₀ list at = length s - at
 
-pub convert-rows-spec : {M : Type 1} → statement M
-convert-rows-spec =
+pub convert_rows_spec : {M : Type 1} → statement M
+convert_rows_spec =
     tie.close
     (tie.spec
     invariant-loop

@@ -4,8 +4,8 @@ use Rattle.old_rows.proofs.ShapeLaws.{few-rows}
 use Rattle.old_rows.proofs.convert.convert_well.Statement.{statement}
 use Rattle.old_rows.proofs.convert.convert_well.Tie as tie
 
-pub convert-well-spec : {M : Type 1} → statement M
-convert-well-spec =
+pub convert_well_spec : {M : Type 1} → statement M
+convert_well_spec =
     tie.close
     (tie.spec
     (λ c κs. search rules)

@@ -15,9 +15,9 @@ invariant-loop s n₀ at₀ n at = malformed_at s n at ≡ malformed_at s 1 0
 abbrev decreases-loop : tie.decreases-loop
 decreases-loop s n₀ at₀ n at = length s - at
 
-pub first-malformed-spec : {M : Type 1} → statement M
+pub first_malformed_spec : {M : Type 1} → statement M
 unfolding first_malformed
-first-malformed-spec =
+first_malformed_spec =
     tie.close
     (tie.spec
     invariant-loop

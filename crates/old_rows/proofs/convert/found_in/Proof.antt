@@ -4,9 +4,9 @@ use Rattle.old_rows.specs.Convert.{found_in}
 use Rattle.old_rows.proofs.convert.found_in.Statement.{statement}
 use Rattle.old_rows.proofs.convert.found_in.Tie as tie
 
-pub found-in-spec : {M : Type 1} → statement M
+pub found_in_spec : {M : Type 1} → statement M
 unfolding found_in
-found-in-spec =
+found_in_spec =
     tie.close
     (tie.spec
     (λ c. search rules)

@@ -4,9 +4,9 @@ use Rattle.old_rows.specs.Convert.{found_of}
 use Rattle.old_rows.proofs.convert.found_of.Statement.{statement}
 use Rattle.old_rows.proofs.convert.found_of.Tie as tie
 
-pub found-of-spec : {M : Type 1} → statement M
+pub found_of_spec : {M : Type 1} → statement M
 unfolding found_of
-found-of-spec =
+found_of_spec =
     tie.close
     (tie.spec
     (λ c κs. search rules)

@@ -4,9 +4,9 @@ use Rattle.old_rows.specs.Convert.{is_seen}
 use Rattle.old_rows.proofs.convert.is_seen.Statement.{statement}
 use Rattle.old_rows.proofs.convert.is_seen.Tie as tie
 
-pub is-seen-spec : {M : Type 1} → statement M
+pub is_seen_spec : {M : Type 1} → statement M
 unfolding is_seen
-is-seen-spec =
+is_seen_spec =
     tie.close
     (tie.spec
     (λ c. search rules)

@@ -4,9 +4,9 @@ use Rattle.old_rows.specs.Convert.{trigger_by}
 use Rattle.old_rows.proofs.convert.trigger_by.Statement.{statement}
 use Rattle.old_rows.proofs.convert.trigger_by.Tie as tie
 
-pub trigger-by-spec : {M : Type 1} → statement M
+pub trigger_by_spec : {M : Type 1} → statement M
 unfolding trigger_by
-trigger-by-spec =
+trigger_by_spec =
     tie.close
     (tie.spec
     (λ c. search rules)

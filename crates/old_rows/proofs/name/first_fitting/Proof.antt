@@ -20,9 +20,9 @@ invariant-loop s settings of own at₀ at =
 abbrev decreases-loop : tie.decreases-loop
 decreases-loop s settings of own at₀ at = length s - at
 
-pub first-fitting-spec : {M : Type 1} → statement M
+pub first_fitting_spec : {M : Type 1} → statement M
 unfolding view_of
-first-fitting-spec =
+first_fitting_spec =
     tie.close
     (tie.spec
     invariant-loop

@@ -4,9 +4,9 @@ use Rattle.old_rows.specs.Back.{is_fitting}
 use Rattle.old_rows.proofs.name.is_fitting.Statement.{statement}
 use Rattle.old_rows.proofs.name.is_fitting.Tie as tie
 
-pub is-fitting-spec : {M : Type 1} → statement M
+pub is_fitting_spec : {M : Type 1} → statement M
 unfolding is_fitting
-is-fitting-spec =
+is_fitting_spec =
     tie.close
     (tie.spec
     (λ c κs. search rules)

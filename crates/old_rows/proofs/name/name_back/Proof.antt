@@ -4,9 +4,9 @@ use Rattle.old_rows.specs.Back.{name_back}
 use Rattle.old_rows.proofs.name.name_back.Statement.{statement}
 use Rattle.old_rows.proofs.name.name_back.Tie as tie
 
-pub name-back-spec : {M : Type 1} → statement M
+pub name_back_spec : {M : Type 1} → statement M
 unfolding name_back
-name-back-spec =
+name_back_spec =
     tie.close
     (tie.spec
     (λ c κs. search rules)

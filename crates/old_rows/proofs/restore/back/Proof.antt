@@ -4,8 +4,8 @@ use Rattle.old_rows.proofs.BackLaws.{bad_sheet, not_own_lem, is_own}
 use Rattle.old_rows.proofs.restore.back.Statement.{statement}
 use Rattle.old_rows.proofs.restore.back.Tie as tie
 
-pub back-spec : {M : Type 1} → statement M
-back-spec =
+pub back_spec : {M : Type 1} → statement M
+back_spec =
     tie.close
     (tie.spec
     (λ c κs. search rules)

@@ -4,8 +4,8 @@ use Rattle.old_rows.proofs.BackLaws.{part-long, copy_fits, length-fits, unnamed,
 use Rattle.old_rows.proofs.restore.back_changes.Statement.{statement}
 use Rattle.old_rows.proofs.restore.back_changes.Tie as tie
 
-pub back-changes-spec : {M : Type 1} → statement M
-back-changes-spec =
+pub back_changes_spec : {M : Type 1} → statement M
+back_changes_spec =
     tie.close
     (tie.spec
     (λ c. search rules)

@@ -4,8 +4,8 @@ use Rattle.old_rows.proofs.BackLaws.{too_small, no_trigger_lem, too_many_lem, no
 use Rattle.old_rows.proofs.restore.back_lists.Statement.{statement}
 use Rattle.old_rows.proofs.restore.back_lists.Tie as tie
 
-pub back-lists-spec : {M : Type 1} → statement M
-back-lists-spec =
+pub back_lists_spec : {M : Type 1} → statement M
+back_lists_spec =
     tie.close
     (tie.spec
     (λ c κs. search rules)

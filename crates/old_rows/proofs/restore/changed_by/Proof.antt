@@ -3,8 +3,8 @@ use Rattle.old_rows.proofs.RowLaws.{row_finding}
 use Rattle.old_rows.proofs.restore.changed_by.Statement.{statement}
 use Rattle.old_rows.proofs.restore.changed_by.Tie as tie
 
-pub changed-by-spec : {M : Type 1} → statement M
-changed-by-spec =
+pub changed_by_spec : {M : Type 1} → statement M
+changed_by_spec =
     tie.close
     (tie.spec
     (λ c κs. search rules)

@@ -4,9 +4,9 @@ use Rattle.old_rows.specs.Back.{changed_of}
 use Rattle.old_rows.proofs.restore.changed_of.Statement.{statement}
 use Rattle.old_rows.proofs.restore.changed_of.Tie as tie
 
-pub changed-of-spec : {M : Type 1} → statement M
+pub changed_of_spec : {M : Type 1} → statement M
 unfolding changed_of
-changed-of-spec =
+changed_of_spec =
     tie.close
     (tie.spec
     (λ c. search rules)

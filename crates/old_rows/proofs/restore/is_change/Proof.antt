@@ -4,9 +4,9 @@ use Rattle.old_rows.specs.Back.{is_change}
 use Rattle.old_rows.proofs.restore.is_change.Statement.{statement}
 use Rattle.old_rows.proofs.restore.is_change.Tie as tie
 
-pub is-change-spec : {M : Type 1} → statement M
+pub is_change_spec : {M : Type 1} → statement M
 unfolding is_change
-is-change-spec =
+is_change_spec =
     tie.close
     (tie.spec
     (λ c κs. search rules)

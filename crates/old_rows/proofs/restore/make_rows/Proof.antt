@@ -12,8 +12,8 @@ invariant-loop made₀ sheet settings l end₀ i₀ made end i = Making (view_of
 abbrev decreases-loop : tie.decreases-loop
 decreases-loop made₀ sheet settings l end₀ i₀ made end i = l.count - i
 
-pub make-rows-spec : {M : Type 1} → statement M
-make-rows-spec =
+pub make_rows_spec : {M : Type 1} → statement M
+make_rows_spec =
     tie.close
     (tie.spec
     invariant-loop

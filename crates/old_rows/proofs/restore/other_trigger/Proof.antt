@@ -12,8 +12,8 @@ invariant-loop l i₀ i = Passed is_change 1 l.count l.rows i
 abbrev decreases-loop : tie.decreases-loop
 decreases-loop l i₀ i = l.count - i
 
-pub other-trigger-spec : {M : Type 1} → statement M
-other-trigger-spec =
+pub other_trigger_spec : {M : Type 1} → statement M
+other_trigger_spec =
     tie.close
     (tie.spec
     invariant-loop

@@ -4,8 +4,8 @@ use Rattle.old_rows.proofs.PutLaws.{adapter-made}
 use Rattle.old_rows.proofs.restore.put_adapter.Statement.{statement}
 use Rattle.old_rows.proofs.restore.put_adapter.Tie as tie
 
-pub put-adapter-spec : {M : Type 1} → statement M
-put-adapter-spec =
+pub put_adapter_spec : {M : Type 1} → statement M
+put_adapter_spec =
     tie.close
     (tie.spec
     (λ c. search rules)

@@ -8,9 +8,9 @@ use Rattle.old_rows.specs.declared.row.Change.TheVariants.{Group}
 use Rattle.old_rows.proofs.restore.put_aggregate.Statement.{statement}
 use Rattle.old_rows.proofs.restore.put_aggregate.Tie as tie
 
-pub put-aggregate-spec : {M : Type 1} → statement M
+pub put_aggregate_spec : {M : Type 1} → statement M
 unfolding change_word
-put-aggregate-spec =
+put_aggregate_spec =
     tie.close
     (tie.spec
     (λ c. search rules)

@@ -6,9 +6,9 @@ use Rattle.old_rows.specs.Back.{change_word}
 use Rattle.old_rows.proofs.restore.put_change.Statement.{statement}
 use Rattle.old_rows.proofs.restore.put_change.Tie as tie
 
-pub put-change-spec : {M : Type 1} → statement M
+pub put_change_spec : {M : Type 1} → statement M
 unfolding change_word
-put-change-spec =
+put_change_spec =
     tie.close
     (tie.spec
     (λ c. search rules)

@@ -6,9 +6,9 @@ use Rattle.old_rows.specs.Back.{kind_word}
 use Rattle.old_rows.proofs.restore.put_kind.Statement.{statement}
 use Rattle.old_rows.proofs.restore.put_kind.Tie as tie
 
-pub put-kind-spec : {M : Type 1} → statement M
+pub put_kind_spec : {M : Type 1} → statement M
 unfolding kind_word
-put-kind-spec =
+put_kind_spec =
     tie.close
     (tie.spec
     (λ c. search rules)

@@ -8,9 +8,9 @@ use Rattle.old_rows.specs.declared.row.Change.TheVariants.{Device}
 use Rattle.old_rows.proofs.restore.put_online.Statement.{statement}
 use Rattle.old_rows.proofs.restore.put_online.Tie as tie
 
-pub put-online-spec : {M : Type 1} → statement M
+pub put_online_spec : {M : Type 1} → statement M
 unfolding change_word
-put-online-spec =
+put_online_spec =
     tie.close
     (tie.spec
     (λ c. search rules)

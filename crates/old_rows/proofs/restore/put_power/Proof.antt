@@ -8,9 +8,9 @@ use Rattle.old_rows.specs.declared.row.Change.TheVariants.{Lamp}
 use Rattle.old_rows.proofs.restore.put_power.Statement.{statement}
 use Rattle.old_rows.proofs.restore.put_power.Tie as tie
 
-pub put-power-spec : {M : Type 1} → statement M
+pub put_power_spec : {M : Type 1} → statement M
 unfolding change_word
-put-power-spec =
+put_power_spec =
     tie.close
     (tie.spec
     (λ c. search rules)

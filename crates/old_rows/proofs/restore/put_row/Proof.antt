@@ -4,8 +4,8 @@ use Rattle.old_rows.proofs.PutLaws.{row_made}
 use Rattle.old_rows.proofs.restore.put_row.Statement.{statement}
 use Rattle.old_rows.proofs.restore.put_row.Tie as tie
 
-pub put-row-spec : {M : Type 1} → statement M
-put-row-spec =
+pub put_row_spec : {M : Type 1} → statement M
+put_row_spec =
     tie.close
     (tie.spec
     (λ c κs. let a = c.before.before.before.args in fits-1 (row_made a.change a.name.now a.adapter) _ _ c.before.before.before.requires)

@@ -3,9 +3,9 @@ use Rattle.writing.specs.Writing.{refused_at}
 use Rattle.old_rows.proofs.restore.refused.Statement.{statement}
 use Rattle.old_rows.proofs.restore.refused.Tie as tie
 
-pub refused-spec : {M : Type 1} → statement M
+pub refused_spec : {M : Type 1} → statement M
 unfolding refused_at
-refused-spec =
+refused_spec =
     tie.close
     (tie.spec
     (λ c. search rules))

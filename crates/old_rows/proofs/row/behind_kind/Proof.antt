@@ -7,9 +7,9 @@ use Rattle.old_rows.specs.Row.{behind_kind}
 use Rattle.old_rows.proofs.row.behind_kind.Statement.{statement}
 use Rattle.old_rows.proofs.row.behind_kind.Tie as tie
 
-pub behind-kind-spec : {M : Type 1} → statement M
+pub behind_kind_spec : {M : Type 1} → statement M
 unfolding behind_kind
-behind-kind-spec =
+behind_kind_spec =
     tie.close
     (tie.spec
     (λ c κs. search rules)

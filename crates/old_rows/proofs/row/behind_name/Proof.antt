@@ -7,9 +7,9 @@ use Rattle.old_rows.specs.Row.{behind_name}
 use Rattle.old_rows.proofs.row.behind_name.Statement.{statement}
 use Rattle.old_rows.proofs.row.behind_name.Tie as tie
 
-pub behind-name-spec : {M : Type 1} → statement M
+pub behind_name_spec : {M : Type 1} → statement M
 unfolding behind_name
-behind-name-spec =
+behind_name_spec =
     tie.close
     (tie.spec
     (λ c κs. search rules)

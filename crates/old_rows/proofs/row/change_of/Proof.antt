@@ -4,9 +4,9 @@ use Rattle.old_rows.specs.Row.{change_of}
 use Rattle.old_rows.proofs.row.change_of.Statement.{statement}
 use Rattle.old_rows.proofs.row.change_of.Tie as tie
 
-pub change-of-spec : {M : Type 1} → statement M
+pub change_of_spec : {M : Type 1} → statement M
 unfolding change_of
-change-of-spec =
+change_of_spec =
     tie.close
     (tie.spec
     (λ c. search rules)

@@ -4,9 +4,9 @@ use Rattle.old_rows.specs.Row.{device_change}
 use Rattle.old_rows.proofs.row.device_change.Statement.{statement}
 use Rattle.old_rows.proofs.row.device_change.Tie as tie
 
-pub device-change-spec : {M : Type 1} → statement M
+pub device_change_spec : {M : Type 1} → statement M
 unfolding device_change
-device-change-spec =
+device_change_spec =
     tie.close
     (tie.spec
     (λ c. search rules)

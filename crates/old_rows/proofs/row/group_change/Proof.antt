@@ -4,9 +4,9 @@ use Rattle.old_rows.specs.Row.{group_change}
 use Rattle.old_rows.proofs.row.group_change.Statement.{statement}
 use Rattle.old_rows.proofs.row.group_change.Tie as tie
 
-pub group-change-spec : {M : Type 1} → statement M
+pub group_change_spec : {M : Type 1} → statement M
 unfolding group_change
-group-change-spec =
+group_change_spec =
     tie.close
     (tie.spec
     (λ c. search rules)

@@ -3,9 +3,9 @@ use Rattle.old_rows.specs.Row.{is_known}
 use Rattle.old_rows.proofs.row.is_known.Statement.{statement}
 use Rattle.old_rows.proofs.row.is_known.Tie as tie
 
-pub is-known-spec : {M : Type 1} → statement M
+pub is_known_spec : {M : Type 1} → statement M
 unfolding is_known
-is-known-spec =
+is_known_spec =
     tie.close
     (tie.spec
     (λ c. search rules)

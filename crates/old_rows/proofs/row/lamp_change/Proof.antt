@@ -4,9 +4,9 @@ use Rattle.old_rows.specs.Row.{lamp_change}
 use Rattle.old_rows.proofs.row.lamp_change.Statement.{statement}
 use Rattle.old_rows.proofs.row.lamp_change.Tie as tie
 
-pub lamp-change-spec : {M : Type 1} → statement M
+pub lamp_change_spec : {M : Type 1} → statement M
 unfolding lamp_change
-lamp-change-spec =
+lamp_change_spec =
     tie.close
     (tie.spec
     (λ c. search rules)

@@ -7,9 +7,9 @@ use Rattle.old_rows.specs.Row.{row_of}
 use Rattle.old_rows.proofs.row.row_of.Statement.{statement}
 use Rattle.old_rows.proofs.row.row_of.Tie as tie
 
-pub row-of-spec : {M : Type 1} → statement M
+pub row_of_spec : {M : Type 1} → statement M
 unfolding row_of
-row-of-spec =
+row_of_spec =
     tie.close
     (tie.spec
     (λ c κs. search rules)

@@ -4,9 +4,9 @@ use Rattle.old_rows.specs.Row.{scoped}
 use Rattle.old_rows.proofs.row.scoped.Statement.{statement}
 use Rattle.old_rows.proofs.row.scoped.Tie as tie
 
-pub scoped-spec : {M : Type 1} → statement M
+pub scoped_spec : {M : Type 1} → statement M
 unfolding scoped
-scoped-spec =
+scoped_spec =
     tie.close
     (tie.spec
     (λ c. search row-reading depth 12)

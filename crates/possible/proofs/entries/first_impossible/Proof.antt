@@ -6,9 +6,9 @@ use Rattle.possible.proofs.ListLaws.{few_triggers, few_conditions}
 use Rattle.possible.proofs.entries.first_impossible.Statement.{statement}
 use Rattle.possible.proofs.entries.first_impossible.Tie as tie
 
-pub first-impossible-spec : {M : Type 1} → statement M
+pub first_impossible_spec : {M : Type 1} → statement M
 unfolding first_failing first_impossible
-first-impossible-spec =
+first_impossible_spec =
     tie.close
     (tie.spec
     (λ c. omega (arith, few_triggers))

@@ -6,9 +6,9 @@ use Rattle.possible.proofs.ListLaws.{few_triggers, few_conditions}
 use Rattle.possible.proofs.entries.first_unreached.Statement.{statement}
 use Rattle.possible.proofs.entries.first_unreached.Tie as tie
 
-pub first-unreached-spec : {M : Type 1} → statement M
+pub first_unreached_spec : {M : Type 1} → statement M
 unfolding first_failing first_unreached
-first-unreached-spec =
+first_unreached_spec =
     tie.close
     (tie.spec
     (λ c. omega (arith, few_triggers))

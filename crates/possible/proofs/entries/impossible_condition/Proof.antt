@@ -12,8 +12,8 @@ invariant-loop first second from l i₀ i = Passed (possible_condition_from firs
 abbrev decreases-loop : tie.decreases-loop
 decreases-loop first second from l i₀ i = l.count - i
 
-pub impossible-condition-spec : {M : Type 1} → statement M
-impossible-condition-spec =
+pub impossible_condition_spec : {M : Type 1} → statement M
+impossible_condition_spec =
     tie.close
     (tie.spec
     invariant-loop

@@ -11,8 +11,8 @@ invariant-loop first second l i₀ i = Passed (possible_trigger_from first secon
 abbrev decreases-loop : tie.decreases-loop
 decreases-loop first second l i₀ i = l.count - i
 
-pub impossible-trigger-spec : {M : Type 1} → statement M
-impossible-trigger-spec =
+pub impossible_trigger_spec : {M : Type 1} → statement M
+impossible_trigger_spec =
     tie.close
     (tie.spec
     invariant-loop

@@ -4,9 +4,9 @@ use Rattle.writing.specs.Writing.{is_text, text_of, possible_condition_from}
 use Rattle.possible.proofs.entries.possible_condition_from.Statement.{statement}
 use Rattle.possible.proofs.entries.possible_condition_from.Tie as tie
 
-pub possible-condition-from-spec : {M : Type 1} → statement M
+pub possible_condition_from_spec : {M : Type 1} → statement M
 unfolding is_text text_of possible_condition_from
-possible-condition-from-spec =
+possible_condition_from_spec =
     tie.close
     (tie.spec
     (λ c κs. search rules)

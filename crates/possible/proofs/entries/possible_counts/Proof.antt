@@ -3,6 +3,6 @@ use Rattle.writing.specs.Writing.{possible_counts}
 use Rattle.possible.proofs.entries.possible_counts.Statement.{statement}
 use Rattle.possible.proofs.entries.possible_counts.Tie as tie
 
-pub possible-counts-spec : {M : Type 1} → statement M
+pub possible_counts_spec : {M : Type 1} → statement M
 unfolding possible_counts
-possible-counts-spec = tie.close (tie.spec (λ c. search tests) (λ c. search tests) (λ c. search tests))
+possible_counts_spec = tie.close (tie.spec (λ c. search tests) (λ c. search tests) (λ c. search tests))

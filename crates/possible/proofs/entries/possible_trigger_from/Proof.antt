@@ -4,9 +4,9 @@ use Rattle.writing.specs.Writing.{is_text, text_of, possible_trigger_from}
 use Rattle.possible.proofs.entries.possible_trigger_from.Statement.{statement}
 use Rattle.possible.proofs.entries.possible_trigger_from.Tie as tie
 
-pub possible-trigger-from-spec : {M : Type 1} → statement M
+pub possible_trigger_from_spec : {M : Type 1} → statement M
 unfolding is_text text_of possible_trigger_from
-possible-trigger-from-spec =
+possible_trigger_from_spec =
     tie.close
     (tie.spec
     (λ c κs. search rules)

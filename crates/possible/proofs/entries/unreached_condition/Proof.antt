@@ -14,8 +14,8 @@ invariant-loop sheet settings from l i₀ i = Passed (λ (y : ConditionFrom). re
 abbrev decreases-loop : tie.decreases-loop
 decreases-loop sheet settings from l i₀ i = l.count - i
 
-pub unreached-condition-spec : {M : Type 1} → statement M
-unreached-condition-spec =
+pub unreached_condition_spec : {M : Type 1} → statement M
+unreached_condition_spec =
     tie.close
     (tie.spec
     invariant-loop

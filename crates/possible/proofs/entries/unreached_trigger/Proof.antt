@@ -13,8 +13,8 @@ invariant-loop sheet settings l i₀ i = Passed (λ (x : TriggerFrom). reached_t
 abbrev decreases-loop : tie.decreases-loop
 decreases-loop sheet settings l i₀ i = l.count - i
 
-pub unreached-trigger-spec : {M : Type 1} → statement M
-unreached-trigger-spec =
+pub unreached_trigger_spec : {M : Type 1} → statement M
+unreached_trigger_spec =
     tie.close
     (tie.spec
     invariant-loop

@@ -3,6 +3,6 @@ use Rattle.writing.specs.Possible.{is_inside}
 use Rattle.possible.proofs.possible.is_inside.Statement.{statement}
 use Rattle.possible.proofs.possible.is_inside.Tie as tie
 
-pub is-inside-spec : {M : Type 1} → statement M
+pub is_inside_spec : {M : Type 1} → statement M
 unfolding is_inside
-is-inside-spec = tie.close (tie.spec (λ c. search rules) (λ c. search rules) (λ c. search rules) (λ c. search rules))
+is_inside_spec = tie.close (tie.spec (λ c. search rules) (λ c. search rules) (λ c. search rules) (λ c. search rules))

@@ -4,9 +4,9 @@ use Rattle.possible.proofs.PossibleLaws.{strings}
 use Rattle.possible.proofs.possible.is_string.Statement.{statement}
 use Rattle.possible.proofs.possible.is_string.Tie as tie
 
-pub is-string-spec : {M : Type 1} → statement M
+pub is_string_spec : {M : Type 1} → statement M
 unfolding is_string is_well_formed
-is-string-spec =
+is_string_spec =
     tie.close
     (tie.spec
     (λ c κs. search rules)

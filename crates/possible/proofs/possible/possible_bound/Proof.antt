@@ -4,6 +4,6 @@ use Rattle.possible.proofs.PossibleLaws.{parts}
 use Rattle.possible.proofs.possible.possible_bound.Statement.{statement}
 use Rattle.possible.proofs.possible.possible_bound.Tie as tie
 
-pub possible-bound-spec : {M : Type 1} → statement M
+pub possible_bound_spec : {M : Type 1} → statement M
 unfolding possible_bound possible_time
-possible-bound-spec = tie.close (tie.spec (λ c. search rules) (λ c. search parts) (λ c. search rules) (λ c. search parts))
+possible_bound_spec = tie.close (tie.spec (λ c. search rules) (λ c. search parts) (λ c. search rules) (λ c. search parts))

@@ -5,9 +5,9 @@ use Rattle.possible.proofs.PossibleLaws.{entries}
 use Rattle.possible.proofs.possible.possible_condition.Statement.{statement}
 use Rattle.possible.proofs.possible.possible_condition.Tie as tie
 
-pub possible-condition-spec : {M : Type 1} → statement M
+pub possible_condition_spec : {M : Type 1} → statement M
 unfolding possible_condition last_short_address last_group
-possible-condition-spec =
+possible_condition_spec =
     tie.close
     (tie.spec
     (λ c. search rules)

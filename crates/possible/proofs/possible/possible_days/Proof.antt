@@ -3,6 +3,6 @@ use Rattle.possible.proofs.PossibleLaws.{parts}
 use Rattle.possible.proofs.possible.possible_days.Statement.{statement}
 use Rattle.possible.proofs.possible.possible_days.Tie as tie
 
-pub possible-days-spec : {M : Type 1} → statement M
+pub possible_days_spec : {M : Type 1} → statement M
 unfolding possible_days
-possible-days-spec = tie.close (tie.spec (λ c. search parts) (λ c. search parts))
+possible_days_spec = tie.close (tie.spec (λ c. search parts) (λ c. search parts))

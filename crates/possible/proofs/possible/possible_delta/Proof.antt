@@ -4,9 +4,9 @@ use Rattle.possible.proofs.PossibleLaws.{parts}
 use Rattle.possible.proofs.possible.possible_delta.Statement.{statement}
 use Rattle.possible.proofs.possible.possible_delta.Tie as tie
 
-pub possible-delta-spec : {M : Type 1} → statement M
+pub possible_delta_spec : {M : Type 1} → statement M
 unfolding possible_delta
-possible-delta-spec =
+possible_delta_spec =
     tie.close
     (tie.spec
     (λ c. search rules)

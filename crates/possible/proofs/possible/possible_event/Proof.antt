@@ -5,9 +5,9 @@ use Rattle.possible.proofs.PossibleLaws.{parts}
 use Rattle.possible.proofs.possible.possible_event.Statement.{statement}
 use Rattle.possible.proofs.possible.possible_event.Tie as tie
 
-pub possible-event-spec : {M : Type 1} → statement M
+pub possible_event_spec : {M : Type 1} → statement M
 unfolding possible_event last_event_information
-possible-event-spec =
+possible_event_spec =
     tie.close
     (tie.spec
     (λ c. search rules)

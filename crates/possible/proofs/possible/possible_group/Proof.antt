@@ -5,6 +5,6 @@ use Rattle.possible.proofs.PossibleLaws.{parts}
 use Rattle.possible.proofs.possible.possible_group.Statement.{statement}
 use Rattle.possible.proofs.possible.possible_group.Tie as tie
 
-pub possible-group-spec : {M : Type 1} → statement M
+pub possible_group_spec : {M : Type 1} → statement M
 unfolding possible_selector last_instance_group
-possible-group-spec = tie.close (tie.spec (λ c. search parts) (λ c. search parts) (λ c κs. search rules) (λ c. search parts))
+possible_group_spec = tie.close (tie.spec (λ c. search parts) (λ c. search parts) (λ c κs. search rules) (λ c. search parts))

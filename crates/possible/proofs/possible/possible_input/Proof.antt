@@ -5,6 +5,6 @@ use Rattle.possible.proofs.PossibleLaws.{parts}
 use Rattle.possible.proofs.possible.possible_input.Statement.{statement}
 use Rattle.possible.proofs.possible.possible_input.Tie as tie
 
-pub possible-input-spec : {M : Type 1} → statement M
+pub possible_input_spec : {M : Type 1} → statement M
 unfolding possible_input last_short_address last_instance
-possible-input-spec = tie.close (tie.spec (λ c κs. search rules) (λ c. search parts) (λ c. search parts))
+possible_input_spec = tie.close (tie.spec (λ c κs. search rules) (λ c. search parts) (λ c. search parts))

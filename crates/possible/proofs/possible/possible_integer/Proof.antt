@@ -3,5 +3,5 @@ use Rattle.possible.proofs.PossibleLaws.{parts}
 use Rattle.possible.proofs.possible.possible_integer.Statement.{statement}
 use Rattle.possible.proofs.possible.possible_integer.Tie as tie
 
-pub possible-integer-spec : {M : Type 1} → statement M
-possible-integer-spec = tie.close (tie.spec (λ c. search parts) (λ c. search rules) (λ c. search parts))
+pub possible_integer_spec : {M : Type 1} → statement M
+possible_integer_spec = tie.close (tie.spec (λ c. search parts) (λ c. search rules) (λ c. search parts))

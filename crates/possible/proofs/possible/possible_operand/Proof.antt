@@ -4,9 +4,9 @@ use Rattle.possible.proofs.PossibleLaws.{parts}
 use Rattle.possible.proofs.possible.possible_operand.Statement.{statement}
 use Rattle.possible.proofs.possible.possible_operand.Tie as tie
 
-pub possible-operand-spec : {M : Type 1} → statement M
+pub possible_operand_spec : {M : Type 1} → statement M
 unfolding possible_operand
-possible-operand-spec =
+possible_operand_spec =
     tie.close
     (tie.spec
     (λ c. search rules)

@@ -5,9 +5,9 @@ use Rattle.possible.proofs.PossibleLaws.{parts}
 use Rattle.possible.proofs.possible.possible_reading.Statement.{statement}
 use Rattle.possible.proofs.possible.possible_reading.Tie as tie
 
-pub possible-reading-spec : {M : Type 1} → statement M
+pub possible_reading_spec : {M : Type 1} → statement M
 unfolding possible_reading last_short_address last_group
-possible-reading-spec =
+possible_reading_spec =
     tie.close
     (tie.spec
     (λ c. search rules)

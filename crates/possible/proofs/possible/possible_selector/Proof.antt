@@ -5,9 +5,9 @@ use Rattle.possible.proofs.PossibleLaws.{parts}
 use Rattle.possible.proofs.possible.possible_selector.Statement.{statement}
 use Rattle.possible.proofs.possible.possible_selector.Tie as tie
 
-pub possible-selector-spec : {M : Type 1} → statement M
+pub possible_selector_spec : {M : Type 1} → statement M
 unfolding possible_selector last_short_address last_instance
-possible-selector-spec =
+possible_selector_spec =
     tie.close
     (tie.spec
     (λ c. search rules)

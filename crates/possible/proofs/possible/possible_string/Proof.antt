@@ -5,9 +5,9 @@ use Rattle.possible.proofs.PossibleLaws.{strings}
 use Rattle.possible.proofs.possible.possible_string.Statement.{statement}
 use Rattle.possible.proofs.possible.possible_string.Tie as tie
 
-pub possible-string-spec : {M : Type 1} → statement M
+pub possible_string_spec : {M : Type 1} → statement M
 unfolding possible_string name_in
-possible-string-spec =
+possible_string_spec =
     tie.close
     (tie.spec
     (λ c κs. search rules)

@@ -5,9 +5,9 @@ use Rattle.possible.proofs.PossibleLaws.{parts}
 use Rattle.possible.proofs.possible.possible_target.Statement.{statement}
 use Rattle.possible.proofs.possible.possible_target.Tie as tie
 
-pub possible-target-spec : {M : Type 1} → statement M
+pub possible_target_spec : {M : Type 1} → statement M
 unfolding possible_target last_short_address last_group
-possible-target-spec =
+possible_target_spec =
     tie.close
     (tie.spec
     (λ c. search rules)

@@ -5,9 +5,9 @@ use Rattle.possible.proofs.PossibleLaws.{strings}
 use Rattle.possible.proofs.possible.possible_topic.Statement.{statement}
 use Rattle.possible.proofs.possible.possible_topic.Tie as tie
 
-pub possible-topic-spec : {M : Type 1} → statement M
+pub possible_topic_spec : {M : Type 1} → statement M
 unfolding possible_topic name_in
-possible-topic-spec =
+possible_topic_spec =
     tie.close
     (tie.spec
     (λ c κs. search rules)

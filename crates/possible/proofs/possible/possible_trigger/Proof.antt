@@ -5,9 +5,9 @@ use Rattle.possible.proofs.PossibleLaws.{entries}
 use Rattle.possible.proofs.possible.possible_trigger.Statement.{statement}
 use Rattle.possible.proofs.possible.possible_trigger.Tie as tie
 
-pub possible-trigger-spec : {M : Type 1} → statement M
+pub possible_trigger_spec : {M : Type 1} → statement M
 unfolding possible_trigger possible_time last_short_address last_group last_scene last_level last_event_information
-possible-trigger-spec =
+possible_trigger_spec =
     tie.close
     (tie.spec
     (λ c. search rules)

@@ -5,6 +5,6 @@ use Rattle.possible.proofs.PossibleLaws.{parts}
 use Rattle.possible.proofs.possible.possible_type.Statement.{statement}
 use Rattle.possible.proofs.possible.possible_type.Tie as tie
 
-pub possible-type-spec : {M : Type 1} → statement M
+pub possible_type_spec : {M : Type 1} → statement M
 unfolding possible_type last_instance_type
-possible-type-spec = tie.close (tie.spec (λ c. search rules) (λ c. search parts) (λ c. search rules) (λ c. search parts))
+possible_type_spec = tie.close (tie.spec (λ c. search rules) (λ c. search parts) (λ c. search rules) (λ c. search parts))

@@ -4,9 +4,9 @@ use Rattle.possible.proofs.PossibleLaws.{parts}
 use Rattle.possible.proofs.possible.possible_value.Statement.{statement}
 use Rattle.possible.proofs.possible.possible_value.Tie as tie
 
-pub possible-value-spec : {M : Type 1} → statement M
+pub possible_value_spec : {M : Type 1} → statement M
 unfolding possible_value
-possible-value-spec =
+possible_value_spec =
     tie.close
     (tie.spec
     (λ c. search rules)

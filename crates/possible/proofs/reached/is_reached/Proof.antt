@@ -5,6 +5,6 @@ use Rattle.possible.proofs.ReachedLaws.{reached}
 use Rattle.possible.proofs.reached.is_reached.Statement.{statement}
 use Rattle.possible.proofs.reached.is_reached.Tie as tie
 
-pub is-reached-spec : {M : Type 1} → statement M
+pub is_reached_spec : {M : Type 1} → statement M
 unfolding is_reached view_of
-is-reached-spec = tie.close (tie.spec (λ c. search reached) (λ c κs. search rules) (λ c. search reached))
+is_reached_spec = tie.close (tie.spec (λ c. search reached) (λ c κs. search rules) (λ c. search reached))

@@ -4,9 +4,9 @@ use Rattle.possible.proofs.ReachedLaws.{reached}
 use Rattle.possible.proofs.reached.reached_condition.Statement.{statement}
 use Rattle.possible.proofs.reached.reached_condition.Tie as tie
 
-pub reached-condition-spec : {M : Type 1} → statement M
+pub reached_condition_spec : {M : Type 1} → statement M
 unfolding reached_condition
-reached-condition-spec =
+reached_condition_spec =
     tie.close
     (tie.spec
     (λ c. search rules)

@@ -4,9 +4,9 @@ use Rattle.possible.proofs.ReachedLaws.{reached}
 use Rattle.possible.proofs.reached.reached_operand.Statement.{statement}
 use Rattle.possible.proofs.reached.reached_operand.Tie as tie
 
-pub reached-operand-spec : {M : Type 1} → statement M
+pub reached_operand_spec : {M : Type 1} → statement M
 unfolding reached_operand
-reached-operand-spec =
+reached_operand_spec =
     tie.close
     (tie.spec
     (λ c. search rules)

@@ -4,9 +4,9 @@ use Rattle.possible.proofs.ReachedLaws.{reached}
 use Rattle.possible.proofs.reached.reached_reading.Statement.{statement}
 use Rattle.possible.proofs.reached.reached_reading.Tie as tie
 
-pub reached-reading-spec : {M : Type 1} → statement M
+pub reached_reading_spec : {M : Type 1} → statement M
 unfolding reached_reading
-reached-reading-spec =
+reached_reading_spec =
     tie.close
     (tie.spec
     (λ c. search rules)

@@ -4,9 +4,9 @@ use Rattle.possible.proofs.ReachedLaws.{reached}
 use Rattle.possible.proofs.reached.reached_selector.Statement.{statement}
 use Rattle.possible.proofs.reached.reached_selector.Tie as tie
 
-pub reached-selector-spec : {M : Type 1} → statement M
+pub reached_selector_spec : {M : Type 1} → statement M
 unfolding reached_selector
-reached-selector-spec =
+reached_selector_spec =
     tie.close
     (tie.spec
     (λ c. search rules)

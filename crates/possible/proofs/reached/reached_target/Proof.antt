@@ -5,9 +5,9 @@ use Rattle.possible.proofs.ReachedLaws.{reached}
 use Rattle.possible.proofs.reached.reached_target.Statement.{statement}
 use Rattle.possible.proofs.reached.reached_target.Tie as tie
 
-pub reached-target-spec : {M : Type 1} → statement M
+pub reached_target_spec : {M : Type 1} → statement M
 unfolding reached_target view_of
-reached-target-spec =
+reached_target_spec =
     tie.close
     (tie.spec
     (λ c. search rules)

@@ -4,9 +4,9 @@ use Rattle.possible.proofs.ReachedLaws.{reached}
 use Rattle.possible.proofs.reached.reached_trigger.Statement.{statement}
 use Rattle.possible.proofs.reached.reached_trigger.Tie as tie
 
-pub reached-trigger-spec : {M : Type 1} → statement M
+pub reached_trigger_spec : {M : Type 1} → statement M
 unfolding reached_trigger
-reached-trigger-spec =
+reached_trigger_spec =
     tie.close
     (tie.spec
     (λ c. search rules)

@@ -4,9 +4,9 @@ use Rattle.possible.proofs.ReachedLaws.{reached}
 use Rattle.possible.proofs.reached.reached_value.Statement.{statement}
 use Rattle.possible.proofs.reached.reached_value.Tie as tie
 
-pub reached-value-spec : {M : Type 1} → statement M
+pub reached_value_spec : {M : Type 1} → statement M
 unfolding reached_value
-reached-value-spec =
+reached_value_spec =
     tie.close
     (tie.spec
     (λ c. search rules)

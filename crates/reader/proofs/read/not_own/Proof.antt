@@ -4,9 +4,9 @@ use Rattle.reader.proofs.ReadLaws.{not_own-by}
 use Rattle.reader.proofs.read.not_own.Statement.{statement}
 use Rattle.reader.proofs.read.not_own.Tie as tie
 
-pub not-own-spec : {M : Type 1} → statement M
+pub not_own_spec : {M : Type 1} → statement M
 unfolding not_own
-not-own-spec =
+not_own_spec =
     tie.close
     (tie.spec
     (λ c κs. search rules)

@@ -3,8 +3,8 @@ use Rattle.reader.proofs.ReadLaws.{placed_in, placed_past}
 use Rattle.reader.proofs.read.placed_at.Statement.{statement}
 use Rattle.reader.proofs.read.placed_at.Tie as tie
 
-pub placed-at-spec : {M : Type 1} → statement M
-placed-at-spec =
+pub placed_at_spec : {M : Type 1} → statement M
+placed_at_spec =
     tie.close
     (tie.spec
     (λ c κs. search rules)

@@ -3,8 +3,8 @@ use Rattle.reader.proofs.ProfileLaws.{profiled-yes, profiled-no}
 use Rattle.reader.proofs.read.profiled_rule.Statement.{statement}
 use Rattle.reader.proofs.read.profiled_rule.Tie as tie
 
-pub profiled-rule-spec : {M : Type 1} → statement M
-profiled-rule-spec =
+pub profiled_rule_spec : {M : Type 1} → statement M
+profiled_rule_spec =
     tie.close
     (tie.spec
     (λ c κs. search rules)

@@ -3,8 +3,8 @@ use Rattle.reader.proofs.ReadLaws.{long-answer, long-buffer, small-answer, small
 use Rattle.reader.proofs.read.read_after.Statement.{statement}
 use Rattle.reader.proofs.read.read_after.Tie as tie
 
-pub read-after-spec : {M : Type 1} → statement M
-read-after-spec =
+pub read_after_spec : {M : Type 1} → statement M
+read_after_spec =
     tie.close
     (tie.spec
     (λ c κs. search rules)

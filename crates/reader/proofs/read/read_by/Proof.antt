@@ -3,8 +3,8 @@ use Rattle.reader.proofs.ReadLaws.{alone-answer, alone-buffer, promised}
 use Rattle.reader.proofs.read.read_by.Statement.{statement}
 use Rattle.reader.proofs.read.read_by.Tie as tie
 
-pub read-by-spec : {M : Type 1} → statement M
-read-by-spec =
+pub read_by_spec : {M : Type 1} → statement M
+read_by_spec =
     tie.close
     (tie.spec
     (λ c. search rules)

@@ -3,8 +3,8 @@ use Rattle.reader.proofs.ReadLaws.{bad-answer, bad-buffer, own-answer, own-buffe
 use Rattle.reader.proofs.read.read_sheet.Statement.{statement}
 use Rattle.reader.proofs.read.read_sheet.Tie as tie
 
-pub read-sheet-spec : {M : Type 1} → statement M
-read-sheet-spec =
+pub read_sheet_spec : {M : Type 1} → statement M
+read_sheet_spec =
     tie.close
     (tie.spec
     (λ c. search rules)

@@ -3,8 +3,8 @@ use Rattle.reader.proofs.ReadLaws.{records-fit, records_in, records-taken, lexed
 use Rattle.reader.proofs.read.read_text.Statement.{statement}
 use Rattle.reader.proofs.read.read_text.Tie as tie
 
-pub read-text-spec : {M : Type 1} → statement M
-read-text-spec =
+pub read_text_spec : {M : Type 1} → statement M
+read_text_spec =
     tie.close
     (tie.spec
     (λ c κs. search rules)

@@ -3,8 +3,8 @@ use Rattle.reader.proofs.ProfileLaws.{rule_default, rule-archive, rule-shop}
 use Rattle.reader.proofs.read.rule_of.Statement.{statement}
 use Rattle.reader.proofs.read.rule_of.Tie as tie
 
-pub rule-of-spec : {M : Type 1} → statement M
-rule-of-spec =
+pub rule_of_spec : {M : Type 1} → statement M
+rule_of_spec =
     tie.close
     (tie.spec
     (λ c. search rules)

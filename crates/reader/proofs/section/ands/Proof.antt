@@ -17,8 +17,8 @@ invariant-loop text words s settings list₀ p₀ word list p =
 abbrev decreases-loop : tie.decreases-loop
 decreases-loop text words s settings list₀ p₀ word list p = 4 - list.count
 
-pub ands-spec : {M : Type 1} → statement M
-ands-spec =
+pub ands_spec : {M : Type 1} → statement M
+ands_spec =
     tie.close
     (tie.spec
     invariant-loop

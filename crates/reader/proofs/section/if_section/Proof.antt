@@ -4,9 +4,9 @@ use Rattle.reader.proofs.RuleLaws.{sections}
 use Rattle.reader.proofs.section.if_section.Statement.{statement}
 use Rattle.reader.proofs.section.if_section.Tie as tie
 
-pub if-section-spec : {M : Type 1} → statement M
+pub if_section_spec : {M : Type 1} → statement M
 unfolding if_section
-if-section-spec =
+if_section_spec =
     tie.close
     (tie.spec
     (λ c. search rules)

@@ -4,9 +4,9 @@ use Rattle.reader.proofs.RuleLaws.{end-yes, end-no}
 use Rattle.reader.proofs.section.rule_end.Statement.{statement}
 use Rattle.reader.proofs.section.rule_end.Tie as tie
 
-pub rule-end-spec : {M : Type 1} → statement M
+pub rule_end_spec : {M : Type 1} → statement M
 unfolding tokens
-rule-end-spec =
+rule_end_spec =
     tie.close
     (tie.spec
     (λ c κs. search rules)

@@ -3,8 +3,8 @@ use Rattle.reader.proofs.RuleLaws.{with_yes, with_no}
 use Rattle.reader.proofs.section.rule_with.Statement.{statement}
 use Rattle.reader.proofs.section.rule_with.Tie as tie
 
-pub rule-with-spec : {M : Type 1} → statement M
-rule-with-spec =
+pub rule_with_spec : {M : Type 1} → statement M
+rule_with_spec =
     tie.close
     (tie.spec
     (λ c κs. search rules)

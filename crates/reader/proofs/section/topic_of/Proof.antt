@@ -9,9 +9,9 @@ use Rattle.reader.proofs.section.topic_of.Tie as tie
 told : (x : Trigger) {v : Trigger} {r : Topic} → x ≡ v → r ≡ topic_name v → r ≡ topic_name x
 told x e h = rw e h
 
-pub topic-of-spec : {M : Type 1} → statement M
+pub topic_of_spec : {M : Type 1} → statement M
 unfolding topic_name
-topic-of-spec =
+topic_of_spec =
     tie.close
     (tie.spec
     (λ c. search rules)

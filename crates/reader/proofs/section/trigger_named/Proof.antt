@@ -4,8 +4,8 @@ use Rattle.reader.proofs.SectionLaws.{named-no, named-yes, named-many}
 use Rattle.reader.proofs.section.trigger_named.Statement.{statement}
 use Rattle.reader.proofs.section.trigger_named.Tie as tie
 
-pub trigger-named-spec : {M : Type 1} → statement M
-trigger-named-spec =
+pub trigger_named_spec : {M : Type 1} → statement M
+trigger_named_spec =
     tie.close
     (tie.spec
     (λ c κs. search rules)

@@ -4,9 +4,9 @@ use Rattle.reader.proofs.RuleLaws.{sections}
 use Rattle.reader.proofs.section.when_section.Statement.{statement}
 use Rattle.reader.proofs.section.when_section.Tie as tie
 
-pub when-section-spec : {M : Type 1} → statement M
+pub when_section_spec : {M : Type 1} → statement M
 unfolding when_section
-when-section-spec =
+when_section_spec =
     tie.close
     (tie.spec
     (λ c. search rules)

@@ -20,8 +20,8 @@ invariant-loop text words s settings lent first earlier list₀ named₀ p₀ wo
 abbrev decreases-loop : tie.decreases-loop
 decreases-loop text words s settings lent first earlier list₀ named₀ p₀ word list named p = 4 - list.count
 
-pub whens-spec : {M : Type 1} → statement M
-whens-spec =
+pub whens_spec : {M : Type 1} → statement M
+whens_spec =
     tie.close
     (tie.spec
     invariant-loop

@@ -3,8 +3,8 @@ use Rattle.reader.proofs.RuleLaws.{whens-no}
 use Rattle.reader.proofs.section.whens_refused.Statement.{statement}
 use Rattle.reader.proofs.section.whens_refused.Tie as tie
 
-pub whens-refused-spec : {M : Type 1} → statement M
-whens-refused-spec =
+pub whens_refused_spec : {M : Type 1} → statement M
+whens_refused_spec =
     tie.close
     (tie.spec
     (λ c κs. search rules)

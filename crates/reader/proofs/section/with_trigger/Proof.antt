@@ -9,5 +9,5 @@ use Rattle.reader.proofs.section.with_trigger.Tie as tie
 its-topic : (named : Ranges) (x : Topic) {topic : Topic} {r : Ranges} → topic ≡ x → r ≡ with_topic named topic → r ≡ with_topic named x
 its-topic named x e h = rw (← e) h
 
-pub with-trigger-spec : {M : Type 1} → statement M
-with-trigger-spec = tie.close (tie.spec (λ c κs. search rules) (λ c κs. search rules) (λ c. search its-topic))
+pub with_trigger_spec : {M : Type 1} → statement M
+with_trigger_spec = tie.close (tie.spec (λ c κs. search rules) (λ c κs. search rules) (λ c. search its-topic))

@@ -4,9 +4,9 @@ use Rattle.references.proofs.ArgChain.{arguments}
 use Rattle.references.proofs.args.adapter_item.Statement.{statement}
 use Rattle.references.proofs.args.adapter_item.Tie as tie
 
-pub adapter-item-spec : {M : Type 1} → statement M
+pub adapter_item_spec : {M : Type 1} → statement M
 unfolding adapter_item
-adapter-item-spec =
+adapter_item_spec =
     tie.close
     (tie.spec
     (λ c κs. search rules)

@@ -5,9 +5,9 @@ use Rattle.references.proofs.ArgChain.{arguments}
 use Rattle.references.proofs.args.arg_at.Statement.{statement}
 use Rattle.references.proofs.args.arg_at.Tie as tie
 
-pub arg-at-spec : {M : Type 1} → statement M
+pub arg_at_spec : {M : Type 1} → statement M
 unfolding arg_at view_of
-arg-at-spec =
+arg_at_spec =
     tie.close
     (tie.spec
     (λ c κs. search rules)

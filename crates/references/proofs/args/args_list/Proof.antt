@@ -16,8 +16,8 @@ invariant-loop text words s settings args₀ count₀ p₀ left₀ args count p 
 abbrev decreases-loop : tie.decreases-loop
 decreases-loop text words s settings args₀ count₀ p₀ left₀ args count p left = left
 
-pub args-list-spec : {M : Type 1} → statement M
-args-list-spec =
+pub args_list_spec : {M : Type 1} → statement M
+args_list_spec =
     tie.close
     (tie.spec
     invariant-loop

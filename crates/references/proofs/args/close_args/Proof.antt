@@ -4,9 +4,9 @@ use Rattle.references.proofs.ArgChain.{arguments}
 use Rattle.references.proofs.args.close_args.Statement.{statement}
 use Rattle.references.proofs.args.close_args.Tie as tie
 
-pub close-args-spec : {M : Type 1} → statement M
+pub close_args_spec : {M : Type 1} → statement M
 unfolding close_args
-close-args-spec =
+close_args_spec =
     tie.close
     (tie.spec
     (λ c κs. search rules)

@@ -4,9 +4,9 @@ use Rattle.references.proofs.ArgChain.{arguments}
 use Rattle.references.proofs.args.count_with.Statement.{statement}
 use Rattle.references.proofs.args.count_with.Tie as tie
 
-pub count-with-spec : {M : Type 1} → statement M
+pub count_with_spec : {M : Type 1} → statement M
 unfolding count_with
-count-with-spec =
+count_with_spec =
     tie.close
     (tie.spec
     (λ c κs. search rules)

@@ -5,9 +5,9 @@ use Rattle.references.proofs.ArgChain.{arguments}
 use Rattle.references.proofs.args.device_instance.Statement.{statement}
 use Rattle.references.proofs.args.device_instance.Tie as tie
 
-pub device-instance-spec : {M : Type 1} → statement M
+pub device_instance_spec : {M : Type 1} → statement M
 unfolding device_instance last_short_address
-device-instance-spec =
+device_instance_spec =
     tie.close
     (tie.spec
     (λ c κs. search rules)

@@ -4,9 +4,9 @@ use Rattle.references.proofs.ArgChain.{arguments}
 use Rattle.references.proofs.args.device_item.Statement.{statement}
 use Rattle.references.proofs.args.device_item.Tie as tie
 
-pub device-item-spec : {M : Type 1} → statement M
+pub device_item_spec : {M : Type 1} → statement M
 unfolding device_item
-device-item-spec =
+device_item_spec =
     tie.close
     (tie.spec
     (λ c κs. search rules)

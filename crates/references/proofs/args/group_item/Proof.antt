@@ -5,9 +5,9 @@ use Rattle.references.proofs.ArgChain.{arguments}
 use Rattle.references.proofs.args.group_item.Statement.{statement}
 use Rattle.references.proofs.args.group_item.Tie as tie
 
-pub group-item-spec : {M : Type 1} → statement M
+pub group_item_spec : {M : Type 1} → statement M
 unfolding group_item last_instance_group
-group-item-spec =
+group_item_spec =
     tie.close
     (tie.spec
     (λ c κs. search rules)

@@ -4,9 +4,9 @@ use Rattle.references.proofs.ArgChain.{arguments}
 use Rattle.references.proofs.args.input_ref.Statement.{statement}
 use Rattle.references.proofs.args.input_ref.Tie as tie
 
-pub input-ref-spec : {M : Type 1} → statement M
+pub input_ref_spec : {M : Type 1} → statement M
 unfolding input_ref
-input-ref-spec =
+input_ref_spec =
     tie.close
     (tie.spec
     (λ c κs. search rules)

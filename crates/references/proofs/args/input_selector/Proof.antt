@@ -4,9 +4,9 @@ use Rattle.references.proofs.ArgChain.{arguments}
 use Rattle.references.proofs.args.input_selector.Statement.{statement}
 use Rattle.references.proofs.args.input_selector.Tie as tie
 
-pub input-selector-spec : {M : Type 1} → statement M
+pub input_selector_spec : {M : Type 1} → statement M
 unfolding input_selector
-input-selector-spec =
+input_selector_spec =
     tie.close
     (tie.spec
     (λ c κs. search rules)

@@ -6,9 +6,9 @@ use Rattle.references.proofs.ArgChain.{arguments}
 use Rattle.references.proofs.args.input_type_value.Statement.{statement}
 use Rattle.references.proofs.args.input_type_value.Tie as tie
 
-pub input-type-value-spec : {M : Type 1} → statement M
+pub input_type_value_spec : {M : Type 1} → statement M
 unfolding input_type_value tokens last_instance_type
-input-type-value-spec =
+input_type_value_spec =
     tie.close
     (tie.spec
     (λ c κs. search rules)

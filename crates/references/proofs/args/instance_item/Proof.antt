@@ -5,9 +5,9 @@ use Rattle.references.proofs.ArgChain.{arguments}
 use Rattle.references.proofs.args.instance_item.Statement.{statement}
 use Rattle.references.proofs.args.instance_item.Tie as tie
 
-pub instance-item-spec : {M : Type 1} → statement M
+pub instance_item_spec : {M : Type 1} → statement M
 unfolding instance_item last_instance
-instance-item-spec =
+instance_item_spec =
     tie.close
     (tie.spec
     (λ c κs. search rules)

@@ -4,9 +4,9 @@ use Rattle.references.proofs.ArgChain.{arguments}
 use Rattle.references.proofs.args.is_dev.Statement.{statement}
 use Rattle.references.proofs.args.is_dev.Tie as tie
 
-pub is-dev-spec : {M : Type 1} → statement M
+pub is_dev_spec : {M : Type 1} → statement M
 unfolding is_dev
-is-dev-spec =
+is_dev_spec =
     tie.close
     (tie.spec
     (λ c. search rules)

@@ -4,9 +4,9 @@ use Rattle.references.proofs.ArgChain.{arguments}
 use Rattle.references.proofs.args.is_group.Statement.{statement}
 use Rattle.references.proofs.args.is_group.Tie as tie
 
-pub is-group-spec : {M : Type 1} → statement M
+pub is_group_spec : {M : Type 1} → statement M
 unfolding is_group
-is-group-spec =
+is_group_spec =
     tie.close
     (tie.spec
     (λ c. search rules)

@@ -4,9 +4,9 @@ use Rattle.references.proofs.ArgChain.{arguments}
 use Rattle.references.proofs.args.is_named.Statement.{statement}
 use Rattle.references.proofs.args.is_named.Tie as tie
 
-pub is-named-spec : {M : Type 1} → statement M
+pub is_named_spec : {M : Type 1} → statement M
 unfolding is_named
-is-named-spec =
+is_named_spec =
     tie.close
     (tie.spec
     (λ c κs. search rules)

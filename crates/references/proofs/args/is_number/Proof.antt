@@ -4,9 +4,9 @@ use Rattle.references.proofs.ArgChain.{arguments}
 use Rattle.references.proofs.args.is_number.Statement.{statement}
 use Rattle.references.proofs.args.is_number.Tie as tie
 
-pub is-number-spec : {M : Type 1} → statement M
+pub is_number_spec : {M : Type 1} → statement M
 unfolding is_number
-is-number-spec =
+is_number_spec =
     tie.close
     (tie.spec
     (λ c. search rules)

@@ -4,9 +4,9 @@ use Rattle.references.proofs.ArgChain.{arguments}
 use Rattle.references.proofs.args.is_on.Statement.{statement}
 use Rattle.references.proofs.args.is_on.Tie as tie
 
-pub is-on-spec : {M : Type 1} → statement M
+pub is_on_spec : {M : Type 1} → statement M
 unfolding is_on
-is-on-spec =
+is_on_spec =
     tie.close
     (tie.spec
     (λ c. search rules)

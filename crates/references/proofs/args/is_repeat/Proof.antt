@@ -5,9 +5,9 @@ use Rattle.references.proofs.ArgChain.{arguments}
 use Rattle.references.proofs.args.is_repeat.Statement.{statement}
 use Rattle.references.proofs.args.is_repeat.Tie as tie
 
-pub is-repeat-spec : {M : Type 1} → statement M
+pub is_repeat_spec : {M : Type 1} → statement M
 unfolding is_repeat may_repeat
-is-repeat-spec =
+is_repeat_spec =
     tie.close
     (tie.spec
     (λ c. search rules)

@@ -4,9 +4,9 @@ use Rattle.references.specs.Args.{is_set}
 use Rattle.references.proofs.args.is_set.Statement.{statement}
 use Rattle.references.proofs.args.is_set.Tie as tie
 
-pub is-set-spec : {M : Type 1} → statement M
+pub is_set_spec : {M : Type 1} → statement M
 unfolding is_set
-is-set-spec =
+is_set_spec =
     tie.close
     (tie.spec
     (λ c κs. search rules)

@@ -4,9 +4,9 @@ use Rattle.references.proofs.ArgChain.{arguments}
 use Rattle.references.proofs.args.item_at.Statement.{statement}
 use Rattle.references.proofs.args.item_at.Tie as tie
 
-pub item-at-spec : {M : Type 1} → statement M
+pub item_at_spec : {M : Type 1} → statement M
 unfolding item_at
-item-at-spec =
+item_at_spec =
     tie.close
     (tie.spec
     (λ c κs. search rules)

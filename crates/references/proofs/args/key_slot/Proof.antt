@@ -5,9 +5,9 @@ use Rattle.references.proofs.ArgChain.{arguments}
 use Rattle.references.proofs.args.key_slot.Statement.{statement}
 use Rattle.references.proofs.args.key_slot.Tie as tie
 
-pub key-slot-spec : {M : Type 1} → statement M
+pub key_slot_spec : {M : Type 1} → statement M
 unfolding key_slot tokens
-key-slot-spec =
+key_slot_spec =
     tie.close
     (tie.spec
     (λ c κs. search rules)

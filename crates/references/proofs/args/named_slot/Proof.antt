@@ -4,9 +4,9 @@ use Rattle.references.proofs.ArgChain.{arguments}
 use Rattle.references.proofs.args.named_slot.Statement.{statement}
 use Rattle.references.proofs.args.named_slot.Tie as tie
 
-pub named-slot-spec : {M : Type 1} → statement M
+pub named_slot_spec : {M : Type 1} → statement M
 unfolding named_slot
-named-slot-spec =
+named_slot_spec =
     tie.close
     (tie.spec
     (λ c κs. search rules)

@@ -4,9 +4,9 @@ use Rattle.references.proofs.ArgChain.{arguments}
 use Rattle.references.proofs.args.one_instance.Statement.{statement}
 use Rattle.references.proofs.args.one_instance.Tie as tie
 
-pub one-instance-spec : {M : Type 1} → statement M
+pub one_instance_spec : {M : Type 1} → statement M
 unfolding one_instance
-one-instance-spec =
+one_instance_spec =
     tie.close
     (tie.spec
     (λ c. search rules)

@@ -4,9 +4,9 @@ use Rattle.references.proofs.ArgChain.{arguments}
 use Rattle.references.proofs.args.put_item.Statement.{statement}
 use Rattle.references.proofs.args.put_item.Tie as tie
 
-pub put-item-spec : {M : Type 1} → statement M
+pub put_item_spec : {M : Type 1} → statement M
 unfolding put
-put-item-spec =
+put_item_spec =
     tie.close
     (tie.spec
     (λ c. search rules)

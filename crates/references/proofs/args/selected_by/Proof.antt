@@ -4,9 +4,9 @@ use Rattle.references.proofs.ArgChain.{arguments}
 use Rattle.references.proofs.args.selected_by.Statement.{statement}
 use Rattle.references.proofs.args.selected_by.Tie as tie
 
-pub selected-by-spec : {M : Type 1} → statement M
+pub selected_by_spec : {M : Type 1} → statement M
 unfolding selected with_group
-selected-by-spec =
+selected_by_spec =
     tie.close
     (tie.spec
     (λ c. search rules)

@@ -4,9 +4,9 @@ use Rattle.references.proofs.ArgChain.{arguments}
 use Rattle.references.proofs.args.slot_at.Statement.{statement}
 use Rattle.references.proofs.args.slot_at.Tie as tie
 
-pub slot-at-spec : {M : Type 1} → statement M
+pub slot_at_spec : {M : Type 1} → statement M
 unfolding slot_at
-slot-at-spec =
+slot_at_spec =
     tie.close
     (tie.spec
     (λ c κs. search rules)

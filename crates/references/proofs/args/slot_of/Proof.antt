@@ -4,9 +4,9 @@ use Rattle.references.specs.Args.{slot_of}
 use Rattle.references.proofs.args.slot_of.Statement.{statement}
 use Rattle.references.proofs.args.slot_of.Tie as tie
 
-pub slot-of-spec : {M : Type 1} → statement M
+pub slot_of_spec : {M : Type 1} → statement M
 unfolding slot_of
-slot-of-spec =
+slot_of_spec =
     tie.close
     (tie.spec
     (λ c. search rules)

@@ -4,9 +4,9 @@ use Rattle.references.proofs.ArgChain.{arguments}
 use Rattle.references.proofs.args.type_item.Statement.{statement}
 use Rattle.references.proofs.args.type_item.Tie as tie
 
-pub type-item-spec : {M : Type 1} → statement M
+pub type_item_spec : {M : Type 1} → statement M
 unfolding type_item
-type-item-spec =
+type_item_spec =
     tie.close
     (tie.spec
     (λ c κs. search rules)

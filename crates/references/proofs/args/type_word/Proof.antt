@@ -4,9 +4,9 @@ use Rattle.references.specs.Args.{type_word}
 use Rattle.references.proofs.args.type_word.Statement.{statement}
 use Rattle.references.proofs.args.type_word.Tie as tie
 
-pub type-word-spec : {M : Type 1} → statement M
+pub type_word_spec : {M : Type 1} → statement M
 unfolding type_word
-type-word-spec =
+type_word_spec =
     tie.close
     (tie.spec
     (λ c. search rules)

@@ -4,9 +4,9 @@ use Rattle.references.proofs.ArgChain.{arguments}
 use Rattle.references.proofs.args.unnamed_slot.Statement.{statement}
 use Rattle.references.proofs.args.unnamed_slot.Tie as tie
 
-pub unnamed-slot-spec : {M : Type 1} → statement M
+pub unnamed_slot_spec : {M : Type 1} → statement M
 unfolding unnamed_slot
-unnamed-slot-spec =
+unnamed_slot_spec =
     tie.close
     (tie.spec
     (λ c. search arguments depth 12)

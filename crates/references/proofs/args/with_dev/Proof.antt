@@ -4,9 +4,9 @@ use Rattle.references.proofs.ArgChain.{arguments}
 use Rattle.references.proofs.args.with_dev.Statement.{statement}
 use Rattle.references.proofs.args.with_dev.Tie as tie
 
-pub with-dev-spec : {M : Type 1} → statement M
+pub with_dev_spec : {M : Type 1} → statement M
 unfolding with_dev
-with-dev-spec =
+with_dev_spec =
     tie.close
     (tie.spec
     (λ c. search rules)

@@ -4,9 +4,9 @@ use Rattle.references.proofs.ArgChain.{arguments}
 use Rattle.references.proofs.args.with_inst.Statement.{statement}
 use Rattle.references.proofs.args.with_inst.Tie as tie
 
-pub with-inst-spec : {M : Type 1} → statement M
+pub with_inst_spec : {M : Type 1} → statement M
 unfolding with_inst
-with-inst-spec =
+with_inst_spec =
     tie.close
     (tie.spec
     (λ c. search rules)

@@ -4,9 +4,9 @@ use Rattle.references.proofs.RefChain.{refs}
 use Rattle.references.proofs.refs.adapter_assign.Statement.{statement}
 use Rattle.references.proofs.refs.adapter_assign.Tie as tie
 
-pub adapter-assign-spec : {M : Type 1} → statement M
+pub adapter_assign_spec : {M : Type 1} → statement M
 unfolding adapter_assign
-adapter-assign-spec =
+adapter_assign_spec =
     tie.close
     (tie.spec
     (λ c. search rules)

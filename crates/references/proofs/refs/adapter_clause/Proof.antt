@@ -4,9 +4,9 @@ use Rattle.references.proofs.RefChain.{refs}
 use Rattle.references.proofs.refs.adapter_clause.Statement.{statement}
 use Rattle.references.proofs.refs.adapter_clause.Tie as tie
 
-pub adapter-clause-spec : {M : Type 1} → statement M
+pub adapter_clause_spec : {M : Type 1} → statement M
 unfolding adapter_clause
-adapter-clause-spec =
+adapter_clause_spec =
     tie.close
     (tie.spec
     (λ c κs. search rules)

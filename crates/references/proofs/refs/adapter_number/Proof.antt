@@ -4,9 +4,9 @@ use Rattle.references.proofs.RefChain.{refs}
 use Rattle.references.proofs.refs.adapter_number.Statement.{statement}
 use Rattle.references.proofs.refs.adapter_number.Tie as tie
 
-pub adapter-number-spec : {M : Type 1} → statement M
+pub adapter_number_spec : {M : Type 1} → statement M
 unfolding adapter_number
-adapter-number-spec =
+adapter_number_spec =
     tie.close
     (tie.spec
     (λ c κs. search rules)

@@ -5,9 +5,9 @@ use Rattle.references.proofs.RefChain.{refs}
 use Rattle.references.proofs.refs.broadcast_target.Statement.{statement}
 use Rattle.references.proofs.refs.broadcast_target.Tie as tie
 
-pub broadcast-target-spec : {M : Type 1} → statement M
+pub broadcast_target_spec : {M : Type 1} → statement M
 unfolding broadcast_target view_of
-broadcast-target-spec =
+broadcast_target_spec =
     tie.close
     (tie.spec
     (λ c κs. search rules)

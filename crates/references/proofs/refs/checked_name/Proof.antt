@@ -5,9 +5,9 @@ use Rattle.references.proofs.RefChain.{lengths}
 use Rattle.references.proofs.refs.checked_name.Statement.{statement}
 use Rattle.references.proofs.refs.checked_name.Tie as tie
 
-pub checked-name-spec : {M : Type 1} → statement M
+pub checked_name_spec : {M : Type 1} → statement M
 unfolding checked_name tokens
-checked-name-spec =
+checked_name_spec =
     tie.close
     (tie.spec
     (λ c κs. search rules)

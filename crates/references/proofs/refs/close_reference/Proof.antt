@@ -4,9 +4,9 @@ use Rattle.references.proofs.RefChain.{refs}
 use Rattle.references.proofs.refs.close_reference.Statement.{statement}
 use Rattle.references.proofs.refs.close_reference.Tie as tie
 
-pub close-reference-spec : {M : Type 1} → statement M
+pub close_reference_spec : {M : Type 1} → statement M
 unfolding close_r
-close-reference-spec =
+close_reference_spec =
     tie.close
     (tie.spec
     (λ c κs. search rules)

@@ -4,9 +4,9 @@ use Rattle.references.proofs.RefChain.{refs}
 use Rattle.references.proofs.refs.closed_name.Statement.{statement}
 use Rattle.references.proofs.refs.closed_name.Tie as tie
 
-pub closed-name-spec : {M : Type 1} → statement M
+pub closed_name_spec : {M : Type 1} → statement M
 unfolding closed_name
-closed-name-spec =
+closed_name_spec =
     tie.close
     (tie.spec
     (λ c κs. search rules)

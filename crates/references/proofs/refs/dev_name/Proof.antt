@@ -4,9 +4,9 @@ use Rattle.references.proofs.RefChain.{refs}
 use Rattle.references.proofs.refs.dev_name.Statement.{statement}
 use Rattle.references.proofs.refs.dev_name.Tie as tie
 
-pub dev-name-spec : {M : Type 1} → statement M
+pub dev_name_spec : {M : Type 1} → statement M
 unfolding dev_name
-dev-name-spec =
+dev_name_spec =
     tie.close
     (tie.spec
     (λ c. search rules)

@@ -5,9 +5,9 @@ use Rattle.references.proofs.RefChain.{refs}
 use Rattle.references.proofs.refs.device_ref.Statement.{statement}
 use Rattle.references.proofs.refs.device_ref.Tie as tie
 
-pub device-ref-spec : {M : Type 1} → statement M
+pub device_ref_spec : {M : Type 1} → statement M
 unfolding device_ref last_short_address
-device-ref-spec =
+device_ref_spec =
     tie.close
     (tie.spec
     (λ c κs. search rules)

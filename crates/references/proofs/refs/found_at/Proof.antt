@@ -4,9 +4,9 @@ use Rattle.references.proofs.RefChain.{refs}
 use Rattle.references.proofs.refs.found_at.Statement.{statement}
 use Rattle.references.proofs.refs.found_at.Tie as tie
 
-pub found-at-spec : {M : Type 1} → statement M
+pub found_at_spec : {M : Type 1} → statement M
 unfolding found_at
-found-at-spec =
+found_at_spec =
     tie.close
     (tie.spec
     (λ c. search rules)

@@ -5,9 +5,9 @@ use Rattle.references.proofs.RefChain.{refs}
 use Rattle.references.proofs.refs.group_ref.Statement.{statement}
 use Rattle.references.proofs.refs.group_ref.Tie as tie
 
-pub group-ref-spec : {M : Type 1} → statement M
+pub group_ref_spec : {M : Type 1} → statement M
 unfolding group_ref last_group
-group-ref-spec =
+group_ref_spec =
     tie.close
     (tie.spec
     (λ c κs. search rules)

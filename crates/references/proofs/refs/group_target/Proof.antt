@@ -4,9 +4,9 @@ use Rattle.references.proofs.RefChain.{refs}
 use Rattle.references.proofs.refs.group_target.Statement.{statement}
 use Rattle.references.proofs.refs.group_target.Tie as tie
 
-pub group-target-spec : {M : Type 1} → statement M
+pub group_target_spec : {M : Type 1} → statement M
 unfolding group_target
-group-target-spec =
+group_target_spec =
     tie.close
     (tie.spec
     (λ c κs. search rules)

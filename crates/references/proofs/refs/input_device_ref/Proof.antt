@@ -5,9 +5,9 @@ use Rattle.references.proofs.RefChain.{refs}
 use Rattle.references.proofs.refs.input_device_ref.Statement.{statement}
 use Rattle.references.proofs.refs.input_device_ref.Tie as tie
 
-pub input-device-ref-spec : {M : Type 1} → statement M
+pub input_device_ref_spec : {M : Type 1} → statement M
 unfolding input_device_ref last_short_address
-input-device-ref-spec =
+input_device_ref_spec =
     tie.close
     (tie.spec
     (λ c κs. search rules)

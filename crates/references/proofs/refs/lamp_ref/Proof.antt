@@ -5,9 +5,9 @@ use Rattle.references.proofs.RefChain.{refs}
 use Rattle.references.proofs.refs.lamp_ref.Statement.{statement}
 use Rattle.references.proofs.refs.lamp_ref.Tie as tie
 
-pub lamp-ref-spec : {M : Type 1} → statement M
+pub lamp_ref_spec : {M : Type 1} → statement M
 unfolding lamp_ref last_short_address
-lamp-ref-spec =
+lamp_ref_spec =
     tie.close
     (tie.spec
     (λ c κs. search rules)

@@ -4,9 +4,9 @@ use Rattle.references.proofs.RefChain.{refs}
 use Rattle.references.proofs.refs.lamp_target.Statement.{statement}
 use Rattle.references.proofs.refs.lamp_target.Tie as tie
 
-pub lamp-target-spec : {M : Type 1} → statement M
+pub lamp_target_spec : {M : Type 1} → statement M
 unfolding lamp_target
-lamp-target-spec =
+lamp_target_spec =
     tie.close
     (tie.spec
     (λ c κs. search rules)

@@ -4,9 +4,9 @@ use Rattle.references.proofs.RefChain.{refs}
 use Rattle.references.proofs.refs.light_target.Statement.{statement}
 use Rattle.references.proofs.refs.light_target.Tie as tie
 
-pub light-target-spec : {M : Type 1} → statement M
+pub light_target_spec : {M : Type 1} → statement M
 unfolding light_target
-light-target-spec =
+light_target_spec =
     tie.close
     (tie.spec
     (λ c. search rules)

@@ -5,9 +5,9 @@ use Rattle.references.proofs.RefChain.{refs}
 use Rattle.references.proofs.refs.name_or_id.Statement.{statement}
 use Rattle.references.proofs.refs.name_or_id.Tie as tie
 
-pub name-or-id-spec : {M : Type 1} → statement M
+pub name_or_id_spec : {M : Type 1} → statement M
 unfolding name_or_id view_of
-name-or-id-spec =
+name_or_id_spec =
     tie.close
     (tie.spec
     (λ c κs. search rules)

@@ -4,9 +4,9 @@ use Rattle.references.proofs.RefChain.{refs}
 use Rattle.references.proofs.refs.open_reference.Statement.{statement}
 use Rattle.references.proofs.refs.open_reference.Tie as tie
 
-pub open-reference-spec : {M : Type 1} → statement M
+pub open_reference_spec : {M : Type 1} → statement M
 unfolding open_r
-open-reference-spec =
+open_reference_spec =
     tie.close
     (tie.spec
     (λ c κs. search rules)

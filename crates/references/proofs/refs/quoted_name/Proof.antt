@@ -4,9 +4,9 @@ use Rattle.references.proofs.RefChain.{refs}
 use Rattle.references.proofs.refs.quoted_name.Statement.{statement}
 use Rattle.references.proofs.refs.quoted_name.Tie as tie
 
-pub quoted-name-spec : {M : Type 1} → statement M
+pub quoted_name_spec : {M : Type 1} → statement M
 unfolding quoted_name
-quoted-name-spec =
+quoted_name_spec =
     tie.close
     (tie.spec
     (λ c κs. search rules)

@@ -4,9 +4,9 @@ use Rattle.references.proofs.RefChain.{refs}
 use Rattle.references.proofs.refs.reference_of.Statement.{statement}
 use Rattle.references.proofs.refs.reference_of.Tie as tie
 
-pub reference-of-spec : {M : Type 1} → statement M
+pub reference_of_spec : {M : Type 1} → statement M
 unfolding reference
-reference-of-spec =
+reference_of_spec =
     tie.close
     (tie.spec
     (λ c κs. search rules)

@@ -5,9 +5,9 @@ use Rattle.references.proofs.RefChain.{refs}
 use Rattle.references.proofs.refs.referred_to.Statement.{statement}
 use Rattle.references.proofs.refs.referred_to.Tie as tie
 
-pub referred-to-spec : {M : Type 1} → statement M
+pub referred_to_spec : {M : Type 1} → statement M
 unfolding referred tokens
-referred-to-spec =
+referred_to_spec =
     tie.close
     (tie.spec
     (λ c. search rules)

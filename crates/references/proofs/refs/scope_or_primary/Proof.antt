@@ -5,9 +5,9 @@ use Rattle.references.proofs.RefChain.{refs}
 use Rattle.references.proofs.refs.scope_or_primary.Statement.{statement}
 use Rattle.references.proofs.refs.scope_or_primary.Tie as tie
 
-pub scope-or-primary-spec : {M : Type 1} → statement M
+pub scope_or_primary_spec : {M : Type 1} → statement M
 unfolding scope_or_primary view_of
-scope-or-primary-spec =
+scope_or_primary_spec =
     tie.close
     (tie.spec
     (λ c. search rules)

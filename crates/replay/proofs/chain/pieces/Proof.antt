@@ -8,8 +8,8 @@ invariant-loop out₀ at answer count p₀ i₀ out p i = length out ≡ length 
 abbrev decreases-loop : tie.decreases-loop
 decreases-loop out₀ at answer count p₀ i₀ out p i = count - i
 
-pub pieces-spec : {M : Type 1} → statement M
-pieces-spec =
+pub pieces_spec : {M : Type 1} → statement M
+pieces_spec =
     tie.close
     (tie.spec
     invariant-loop

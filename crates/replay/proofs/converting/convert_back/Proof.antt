@@ -3,8 +3,8 @@ use Rattle.replay.proofs.converting.convert_back.Statement.{statement}
 use Rattle.replay.proofs.converting.convert_back.Tie as tie
 
 -- the seventh: the bytes that are lent are as many as asked for
-pub convert-back-spec : {M : Type 1} → statement M
-convert-back-spec =
+pub convert_back_spec : {M : Type 1} → statement M
+convert_back_spec =
     tie.close
     (tie.spec
     (λ c. search rules)

@@ -8,8 +8,8 @@ invariant-loop expected i₀ i = Unit {0}
 abbrev decreases-loop : tie.decreases-loop
 decreases-loop expected i₀ i = length expected - i
 
-pub follows-spec : {M : Type 1} → statement M
-follows-spec =
+pub follows_spec : {M : Type 1} → statement M
+follows_spec =
     tie.close
     (tie.spec
     invariant-loop

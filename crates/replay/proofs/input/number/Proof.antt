@@ -8,8 +8,8 @@ invariant-loop stop n₀ left₀ b₀ n left b = Unit {0}
 abbrev decreases-loop : tie.decreases-loop
 decreases-loop stop n₀ left₀ b₀ n left b = left
 
-pub number-spec : {M : Type 1} → statement M
-number-spec =
+pub number_spec : {M : Type 1} → statement M
+number_spec =
     tie.close
     (tie.spec
     invariant-loop

@@ -3,8 +3,8 @@ use Rattle.replay.proofs.joining.call.Statement.{statement}
 use Rattle.replay.proofs.joining.call.Tie as tie
 
 -- the fourth and the sixth: the words that are lent for each text are as many as asked for
-pub call-spec : {M : Type 1} → statement M
-call-spec =
+pub call_spec : {M : Type 1} → statement M
+call_spec =
     tie.close
     (tie.spec
     (λ c. search rules)

@@ -8,8 +8,8 @@ invariant-loop out₀ at first second answer forms list p₀ from₀ row₀ left
 abbrev decreases-loop : tie.decreases-loop
 decreases-loop out₀ at first second answer forms list p₀ from₀ row₀ left₀ out p from row left = left
 
-pub entries-spec : {M : Type 1} → statement M
-entries-spec =
+pub entries_spec : {M : Type 1} → statement M
+entries_spec =
     tie.close
     (tie.spec
     invariant-loop

@@ -8,8 +8,8 @@ invariant-loop list separator k start₀ left₀ i₀ start left i = Unit {0}
 abbrev decreases-loop : tie.decreases-loop
 decreases-loop list separator k start₀ left₀ i₀ start left i = length list - i
 
-pub item-spec : {M : Type 1} → statement M
-item-spec =
+pub item_spec : {M : Type 1} → statement M
+item_spec =
     tie.close
     (tie.spec
     invariant-loop

@@ -8,8 +8,8 @@ invariant-loop out₀ at w p₀ i₀ out p i = length out ≡ length out₀
 abbrev decreases-loop : tie.decreases-loop
 decreases-loop out₀ at w p₀ i₀ out p i = length w - i
 
-pub bytes-spec : {M : Type 1} → statement M
-bytes-spec =
+pub bytes_spec : {M : Type 1} → statement M
+bytes_spec =
     tie.close
     (tie.spec
     invariant-loop

@@ -9,8 +9,8 @@ invariant-loop out₀ at sum p₀ left₀ digit₀ out p left digit = length out
 abbrev decreases-loop : tie.decreases-loop
 decreases-loop out₀ at sum p₀ left₀ digit₀ out p left digit = 56 - digit
 
-pub days-spec : {M : Type 1} → statement M
-days-spec =
+pub days_spec : {M : Type 1} → statement M
+days_spec =
     tie.close
     (tie.spec
     invariant-loop

@@ -8,8 +8,8 @@ invariant-loop out₀ at w p₀ i₀ out p i = length out ≡ length out₀
 abbrev decreases-loop : tie.decreases-loop
 decreases-loop out₀ at w p₀ i₀ out p i = length w - i
 
-pub hex-spec : {M : Type 1} → statement M
-hex-spec =
+pub hex_spec : {M : Type 1} → statement M
+hex_spec =
     tie.close
     (tie.spec
     invariant-loop

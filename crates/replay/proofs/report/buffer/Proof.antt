@@ -8,8 +8,8 @@ invariant-loop out₀ at words most p₀ i₀ t7 t8 out p i = length out ≡ len
 abbrev decreases-loop : tie.decreases-loop
 decreases-loop out₀ at words most p₀ i₀ t7 t8 out p i = most - i
 
-pub buffer-spec : {M : Type 1} → statement M
-buffer-spec =
+pub buffer_spec : {M : Type 1} → statement M
+buffer_spec =
     tie.close
     (tie.spec
     invariant-loop

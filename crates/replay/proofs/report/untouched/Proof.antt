@@ -8,8 +8,8 @@ invariant-loop words count i₀ i = Unit {0}
 abbrev decreases-loop : tie.decreases-loop
 decreases-loop words count i₀ i = length words - i
 
-pub untouched-spec : {M : Type 1} → statement M
-untouched-spec =
+pub untouched_spec : {M : Type 1} → statement M
+untouched_spec =
     tie.close
     (tie.spec
     invariant-loop

@@ -29,8 +29,8 @@ line-Inv-loop out₀ at text words k forms fields p₀ i₀ out p i = length out
 abbrev line-μ-loop : line-lts.decreases-loop
 line-μ-loop out₀ at text words k forms fields p₀ i₀ out p i = 7 - i
 
-pub +line-spec : {M : Type 1} → statement M
-+line-spec = close μ-line λ t. line-lts.spec (
+pub +line_spec : {M : Type 1} → statement M
++line_spec = close μ-line λ t. line-lts.spec (
   item-reads.Asked,
   item-reads.Learnt,
   index_Reads.Asked,

@@ -8,8 +8,8 @@ invariant-loop out₀ at text answer k count forms fields p₀ row₀ left₀ ou
 abbrev decreases-loop : tie.decreases-loop
 decreases-loop out₀ at text answer k count forms fields p₀ row₀ left₀ out p row left = left
 
-pub rows-spec : {M : Type 1} → statement M
-rows-spec =
+pub rows_spec : {M : Type 1} → statement M
+rows_spec =
     tie.close
     (tie.spec
     invariant-loop

@@ -3,8 +3,8 @@ use Rattle.replay.proofs.written.call.Statement.{statement}
 use Rattle.replay.proofs.written.call.Tie as tie
 
 -- the fourth: the bytes that are lent are as many as asked for
-pub call-spec : {M : Type 1} → statement M
-call-spec =
+pub call_spec : {M : Type 1} → statement M
+call_spec =
     tie.close
     (tie.spec
     (λ c. search rules)

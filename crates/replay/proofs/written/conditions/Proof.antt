@@ -8,8 +8,8 @@ invariant-loop numbers rows₀ i₀ rows i = length rows ≡ 4
 abbrev decreases-loop : tie.decreases-loop
 decreases-loop numbers rows₀ i₀ rows i = 4 - i
 
-pub conditions-spec : {M : Type 1} → statement M
-conditions-spec =
+pub conditions_spec : {M : Type 1} → statement M
+conditions_spec =
     tie.close
     (tie.spec
     invariant-loop

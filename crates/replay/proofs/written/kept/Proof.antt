@@ -8,8 +8,8 @@ invariant-loop buffer from i₀ i = Unit {0}
 abbrev decreases-loop : tie.decreases-loop
 decreases-loop buffer from i₀ i = length buffer - i
 
-pub kept-spec : {M : Type 1} → statement M
-kept-spec =
+pub kept_spec : {M : Type 1} → statement M
+kept_spec =
     tie.close
     (tie.spec
     invariant-loop

@@ -8,8 +8,8 @@ invariant-loop numbers at words₀ i₀ words i = length words ≡ 12
 abbrev decreases-loop : tie.decreases-loop
 decreases-loop numbers at words₀ i₀ words i = 12 - i
 
-pub row-spec : {M : Type 1} → statement M
-row-spec =
+pub row_spec : {M : Type 1} → statement M
+row_spec =
     tie.close
     (tie.spec
     invariant-loop

@@ -8,8 +8,8 @@ invariant-loop numbers rows₀ i₀ rows i = length rows ≡ 4
 abbrev decreases-loop : tie.decreases-loop
 decreases-loop numbers rows₀ i₀ rows i = 4 - i
 
-pub triggers-spec : {M : Type 1} → statement M
-triggers-spec =
+pub triggers_spec : {M : Type 1} → statement M
+triggers_spec =
     tie.close
     (tie.spec
     invariant-loop

@@ -10,8 +10,8 @@ invariant-loop answer₀ left₀ answer left = length answer ≡ length answer�
 abbrev decreases-loop : tie.decreases-loop
 decreases-loop answer₀ left₀ answer left = left
 
-pub all-spec : {M : Type 1} → statement M
-all-spec =
+pub all_spec : {M : Type 1} → statement M
+all_spec =
     tie.close
     (tie.spec
     invariant-loop

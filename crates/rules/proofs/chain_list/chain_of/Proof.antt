@@ -9,8 +9,8 @@ invariant-loop answer chain₀ i₀ chain i = i ≤ 15
 abbrev decreases-loop : tie.decreases-loop
 decreases-loop answer chain₀ i₀ chain i = 15 - i
 
-pub chain-of-spec : {M : Type 1} → statement M
-chain-of-spec =
+pub chain_of_spec : {M : Type 1} → statement M
+chain_of_spec =
     tie.close
     (tie.spec
     invariant-loop

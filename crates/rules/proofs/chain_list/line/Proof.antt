@@ -11,8 +11,8 @@ invariant-loop chain i₀ i = i ≤ length chain
 abbrev decreases-loop : tie.decreases-loop
 decreases-loop chain i₀ i = length chain - i
 
-pub line-spec : {M : Type 1} → statement M
-line-spec =
+pub line_spec : {M : Type 1} → statement M
+line_spec =
     tie.close
     (tie.spec
     invariant-loop

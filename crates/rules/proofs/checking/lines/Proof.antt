@@ -9,8 +9,8 @@ invariant-loop text sheet answer k₀ k = Unit {0}
 abbrev decreases-loop : tie.decreases-loop
 decreases-loop text sheet answer k₀ k = 9 - k
 
-pub lines-spec : {M : Type 1} → statement M
-lines-spec =
+pub lines_spec : {M : Type 1} → statement M
+lines_spec =
     tie.close
     (tie.spec
     invariant-loop

@@ -9,8 +9,8 @@ invariant-loop a a-words b b-words count i₀ i = Unit {0}
 abbrev decreases-loop : tie.decreases-loop
 decreases-loop a a-words b b-words count i₀ i = count - i
 
-pub first-difference-spec : {M : Type 1} → statement M
-first-difference-spec =
+pub first_difference_spec : {M : Type 1} → statement M
+first_difference_spec =
     tie.close
     (tie.spec
     invariant-loop

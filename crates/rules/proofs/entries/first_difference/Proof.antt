@@ -9,8 +9,8 @@ invariant-loop a xs b ys n₀ i₀ n i = Unit {0}
 abbrev decreases-loop : tie.decreases-loop
 decreases-loop a xs b ys n₀ i₀ n i = 4 - i
 
-pub first-difference-spec : {M : Type 1} → statement M
-first-difference-spec =
+pub first_difference_spec : {M : Type 1} → statement M
+first_difference_spec =
     tie.close
     (tie.spec
     invariant-loop

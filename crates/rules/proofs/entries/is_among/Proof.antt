@@ -9,8 +9,8 @@ invariant-loop a x b count list i₀ i = Unit {0}
 abbrev decreases-loop : tie.decreases-loop
 decreases-loop a x b count list i₀ i = 4 - i
 
-pub is-among-spec : {M : Type 1} → statement M
-is-among-spec =
+pub is_among_spec : {M : Type 1} → statement M
+is_among_spec =
     tie.close
     (tie.spec
     invariant-loop

@@ -9,8 +9,8 @@ invariant-loop n a xs count b ys all₀ i₀ all i = Unit {0}
 abbrev decreases-loop : tie.decreases-loop
 decreases-loop n a xs count b ys all₀ i₀ all i = 4 - i
 
-pub with-new-spec : {M : Type 1} → statement M
-with-new-spec =
+pub with_new_spec : {M : Type 1} → statement M
+with_new_spec =
     tie.close
     (tie.spec
     invariant-loop

@@ -9,8 +9,8 @@ invariant-loop list candidate k₀ k = Unit {0}
 abbrev decreases-loop : tie.decreases-loop
 decreases-loop list candidate k₀ k = 255 - k
 
-pub index-of-spec : {M : Type 1} → statement M
-index-of-spec =
+pub index_of_spec : {M : Type 1} → statement M
+index_of_spec =
     tie.close
     (tie.spec
     invariant-loop

@@ -9,8 +9,8 @@ invariant-loop list marks word k₀ k = Unit {0}
 abbrev decreases-loop : tie.decreases-loop
 decreases-loop list marks word k₀ k = 255 - k
 
-pub near-item-spec : {M : Type 1} → statement M
-near-item-spec =
+pub near_item_spec : {M : Type 1} → statement M
+near_item_spec =
     tie.close
     (tie.spec
     invariant-loop

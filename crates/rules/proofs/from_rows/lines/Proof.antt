@@ -9,8 +9,8 @@ invariant-loop rows sheet answer n₀ n = Unit {0}
 abbrev decreases-loop : tie.decreases-loop
 decreases-loop rows sheet answer n₀ n = 5 - n
 
-pub lines-spec : {M : Type 1} → statement M
-lines-spec =
+pub lines_spec : {M : Type 1} → statement M
+lines_spec =
     tie.close
     (tie.spec
     invariant-loop

@@ -9,8 +9,8 @@ invariant-loop a b sheet answer a-name b-name row end k₀ k = Unit {0}
 abbrev decreases-loop : tie.decreases-loop
 decreases-loop a b sheet answer a-name b-name row end k₀ k = end - k
 
-pub lines-spec : {M : Type 1} → statement M
-lines-spec =
+pub lines_spec : {M : Type 1} → statement M
+lines_spec =
     tie.close
     (tie.spec
     invariant-loop

@@ -9,8 +9,8 @@ invariant-loop text words count i₀ i = Unit {0}
 abbrev decreases-loop : tie.decreases-loop
 decreases-loop text words count i₀ i = count - i
 
-pub listed-spec : {M : Type 1} → statement M
-listed-spec =
+pub listed_spec : {M : Type 1} → statement M
+listed_spec =
     tie.close
     (tie.spec
     invariant-loop

@@ -9,8 +9,8 @@ invariant-loop l all₀ i₀ all i = Unit {0}
 abbrev decreases-loop : tie.decreases-loop
 decreases-loop l all₀ i₀ all i = 4 - i
 
-pub conditions-spec : {M : Type 1} → statement M
-conditions-spec =
+pub conditions_spec : {M : Type 1} → statement M
+conditions_spec =
     tie.close
     (tie.spec
     invariant-loop

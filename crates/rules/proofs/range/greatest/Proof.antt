@@ -9,8 +9,8 @@ invariant-loop text sheet f behind list found₀ k₀ found k = Unit {0}
 abbrev decreases-loop : tie.decreases-loop
 decreases-loop text sheet f behind list found₀ k₀ found k = 6 - k
 
-pub greatest-spec : {M : Type 1} → statement M
-greatest-spec =
+pub greatest_spec : {M : Type 1} → statement M
+greatest_spec =
     tie.close
     (tie.spec
     invariant-loop

@@ -9,9 +9,9 @@ use Rattle.sections.proofs.condition.comparison_at.Tie as tie
 ends : tie.Need-returns
 ends c = search no-comparisons depth 12
 
-pub comparison-at-spec : {M : Type 1} → statement M
+pub comparison_at_spec : {M : Type 1} → statement M
 unfolding comparison_at comparison_by tokens
-comparison-at-spec =
+comparison_at_spec =
     tie.close
     (tie.spec
     (λ c κs. search rules)

@@ -4,9 +4,9 @@ use Rattle.sections.proofs.ConditionChain.{choices}
 use Rattle.sections.proofs.condition.condition_at.Statement.{statement}
 use Rattle.sections.proofs.condition.condition_at.Tie as tie
 
-pub condition-at-spec : {M : Type 1} → statement M
+pub condition_at_spec : {M : Type 1} → statement M
 unfolding condition_at
-condition-at-spec =
+condition_at_spec =
     tie.close
     (tie.spec
     (λ c κs. search rules)

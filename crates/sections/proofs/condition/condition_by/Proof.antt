@@ -4,9 +4,9 @@ use Rattle.sections.proofs.ConditionChain.{choices}
 use Rattle.sections.proofs.condition.condition_by.Statement.{statement}
 use Rattle.sections.proofs.condition.condition_by.Tie as tie
 
-pub condition-by-spec : {M : Type 1} → statement M
+pub condition_by_spec : {M : Type 1} → statement M
 unfolding condition_by
-condition-by-spec =
+condition_by_spec =
     tie.close
     (tie.spec
     (λ c κs. search rules)

@@ -4,9 +4,9 @@ use Rattle.sections.proofs.ConditionChain.{phrases}
 use Rattle.sections.proofs.condition.controller_condition.Statement.{statement}
 use Rattle.sections.proofs.condition.controller_condition.Tie as tie
 
-pub controller-condition-spec : {M : Type 1} → statement M
+pub controller_condition_spec : {M : Type 1} → statement M
 unfolding controller_condition
-controller-condition-spec =
+controller_condition_spec =
     tie.close
     (tie.spec
     (λ c. search rules)

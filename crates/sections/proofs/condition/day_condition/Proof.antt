@@ -4,9 +4,9 @@ use Rattle.sections.proofs.ConditionChain.{times}
 use Rattle.sections.proofs.condition.day_condition.Statement.{statement}
 use Rattle.sections.proofs.condition.day_condition.Tie as tie
 
-pub day-condition-spec : {M : Type 1} → statement M
+pub day_condition_spec : {M : Type 1} → statement M
 unfolding day_condition
-day-condition-spec =
+day_condition_spec =
     tie.close
     (tie.spec
     (λ c. search rules)

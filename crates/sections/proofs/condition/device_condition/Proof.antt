@@ -4,9 +4,9 @@ use Rattle.sections.proofs.ConditionChain.{phrases}
 use Rattle.sections.proofs.condition.device_condition.Statement.{statement}
 use Rattle.sections.proofs.condition.device_condition.Tie as tie
 
-pub device-condition-spec : {M : Type 1} → statement M
+pub device_condition_spec : {M : Type 1} → statement M
 unfolding device_condition
-device-condition-spec =
+device_condition_spec =
     tie.close
     (tie.spec
     (λ c κs. search rules)

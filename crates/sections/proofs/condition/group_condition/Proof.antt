@@ -4,9 +4,9 @@ use Rattle.sections.proofs.ConditionChain.{states}
 use Rattle.sections.proofs.condition.group_condition.Statement.{statement}
 use Rattle.sections.proofs.condition.group_condition.Tie as tie
 
-pub group-condition-spec : {M : Type 1} → statement M
+pub group_condition_spec : {M : Type 1} → statement M
 unfolding group_condition
-group-condition-spec =
+group_condition_spec =
     tie.close
     (tie.spec
     (λ c κs. search rules)

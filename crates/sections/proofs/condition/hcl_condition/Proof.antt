@@ -4,9 +4,9 @@ use Rattle.sections.proofs.ConditionChain.{states}
 use Rattle.sections.proofs.condition.hcl_condition.Statement.{statement}
 use Rattle.sections.proofs.condition.hcl_condition.Tie as tie
 
-pub hcl-condition-spec : {M : Type 1} → statement M
+pub hcl_condition_spec : {M : Type 1} → statement M
 unfolding hcl_condition
-hcl-condition-spec =
+hcl_condition_spec =
     tie.close
     (tie.spec
     (λ c. search rules)

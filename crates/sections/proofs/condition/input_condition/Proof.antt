@@ -4,9 +4,9 @@ use Rattle.sections.proofs.ConditionChain.{states}
 use Rattle.sections.proofs.condition.input_condition.Statement.{statement}
 use Rattle.sections.proofs.condition.input_condition.Tie as tie
 
-pub input-condition-spec : {M : Type 1} → statement M
+pub input_condition_spec : {M : Type 1} → statement M
 unfolding input_condition
-input-condition-spec =
+input_condition_spec =
     tie.close
     (tie.spec
     (λ c κs. search rules)

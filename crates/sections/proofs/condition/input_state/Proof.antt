@@ -4,9 +4,9 @@ use Rattle.sections.proofs.ConditionChain.{states}
 use Rattle.sections.proofs.condition.input_state.Statement.{statement}
 use Rattle.sections.proofs.condition.input_state.Tie as tie
 
-pub input-state-spec : {M : Type 1} → statement M
+pub input_state_spec : {M : Type 1} → statement M
 unfolding input_state
-input-state-spec =
+input_state_spec =
     tie.close
     (tie.spec
     (λ c. search rules)

@@ -4,9 +4,9 @@ use Rattle.sections.proofs.ConditionChain.{compared}
 use Rattle.sections.proofs.condition.lamp_compared.Statement.{statement}
 use Rattle.sections.proofs.condition.lamp_compared.Tie as tie
 
-pub lamp-compared-spec : {M : Type 1} → statement M
+pub lamp_compared_spec : {M : Type 1} → statement M
 unfolding lamp_compared
-lamp-compared-spec =
+lamp_compared_spec =
     tie.close
     (tie.spec
     (λ c κs. search rules)

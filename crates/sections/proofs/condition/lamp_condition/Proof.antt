@@ -4,9 +4,9 @@ use Rattle.sections.proofs.ConditionChain.{states}
 use Rattle.sections.proofs.condition.lamp_condition.Statement.{statement}
 use Rattle.sections.proofs.condition.lamp_condition.Tie as tie
 
-pub lamp-condition-spec : {M : Type 1} → statement M
+pub lamp_condition_spec : {M : Type 1} → statement M
 unfolding lamp_condition
-lamp-condition-spec =
+lamp_condition_spec =
     tie.close
     (tie.spec
     (λ c κs. search rules)

@@ -4,9 +4,9 @@ use Rattle.sections.proofs.ConditionChain.{judged}
 use Rattle.sections.proofs.condition.lamp_judged.Statement.{statement}
 use Rattle.sections.proofs.condition.lamp_judged.Tie as tie
 
-pub lamp-judged-spec : {M : Type 1} → statement M
+pub lamp_judged_spec : {M : Type 1} → statement M
 unfolding lamp_judged
-lamp-judged-spec =
+lamp_judged_spec =
     tie.close
     (tie.spec
     (λ c. search rules)

@@ -4,9 +4,9 @@ use Rattle.sections.proofs.ConditionChain.{compared}
 use Rattle.sections.proofs.condition.lamp_point.Statement.{statement}
 use Rattle.sections.proofs.condition.lamp_point.Tie as tie
 
-pub lamp-point-spec : {M : Type 1} → statement M
+pub lamp_point_spec : {M : Type 1} → statement M
 unfolding lamp_point
-lamp-point-spec =
+lamp_point_spec =
     tie.close
     (tie.spec
     (λ c κs. search rules)

@@ -4,9 +4,9 @@ use Rattle.sections.proofs.ConditionChain.{states}
 use Rattle.sections.proofs.condition.lamp_state.Statement.{statement}
 use Rattle.sections.proofs.condition.lamp_state.Tie as tie
 
-pub lamp-state-spec : {M : Type 1} → statement M
+pub lamp_state_spec : {M : Type 1} → statement M
 unfolding lamp_state
-lamp-state-spec =
+lamp_state_spec =
     tie.close
     (tie.spec
     (λ c. search rules)

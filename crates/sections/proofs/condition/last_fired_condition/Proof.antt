@@ -4,9 +4,9 @@ use Rattle.sections.proofs.ConditionChain.{phrases}
 use Rattle.sections.proofs.condition.last_fired_condition.Statement.{statement}
 use Rattle.sections.proofs.condition.last_fired_condition.Tie as tie
 
-pub last-fired-condition-spec : {M : Type 1} → statement M
+pub last_fired_condition_spec : {M : Type 1} → statement M
 unfolding last_fired_condition
-last-fired-condition-spec =
+last_fired_condition_spec =
     tie.close
     (tie.spec
     (λ c. search rules)

@@ -4,9 +4,9 @@ use Rattle.sections.proofs.ConditionChain.{states}
 use Rattle.sections.proofs.condition.light_than.Statement.{statement}
 use Rattle.sections.proofs.condition.light_than.Tie as tie
 
-pub light-than-spec : {M : Type 1} → statement M
+pub light_than_spec : {M : Type 1} → statement M
 unfolding light_than
-light-than-spec =
+light_than_spec =
     tie.close
     (tie.spec
     (λ c. search rules)

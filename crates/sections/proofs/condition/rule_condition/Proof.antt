@@ -4,9 +4,9 @@ use Rattle.sections.proofs.ConditionChain.{phrases}
 use Rattle.sections.proofs.condition.rule_condition.Statement.{statement}
 use Rattle.sections.proofs.condition.rule_condition.Tie as tie
 
-pub rule-condition-spec : {M : Type 1} → statement M
+pub rule_condition_spec : {M : Type 1} → statement M
 unfolding rule_condition
-rule-condition-spec =
+rule_condition_spec =
     tie.close
     (tie.spec
     (λ c. search rules)

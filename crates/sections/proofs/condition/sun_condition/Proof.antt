@@ -4,9 +4,9 @@ use Rattle.sections.proofs.ConditionChain.{states}
 use Rattle.sections.proofs.condition.sun_condition.Statement.{statement}
 use Rattle.sections.proofs.condition.sun_condition.Tie as tie
 
-pub sun-condition-spec : {M : Type 1} → statement M
+pub sun_condition_spec : {M : Type 1} → statement M
 unfolding sun_condition
-sun-condition-spec =
+sun_condition_spec =
     tie.close
     (tie.spec
     (λ c. search rules)

@@ -4,9 +4,9 @@ use Rattle.sections.proofs.ConditionChain.{operands}
 use Rattle.sections.proofs.condition.text_operand.Statement.{statement}
 use Rattle.sections.proofs.condition.text_operand.Tie as tie
 
-pub text-operand-spec : {M : Type 1} → statement M
+pub text_operand_spec : {M : Type 1} → statement M
 unfolding text_operand
-text-operand-spec =
+text_operand_spec =
     tie.close
     (tie.spec
     (λ c κs. search rules)

@@ -4,9 +4,9 @@ use Rattle.sections.proofs.ConditionChain.{times}
 use Rattle.sections.proofs.condition.time_condition.Statement.{statement}
 use Rattle.sections.proofs.condition.time_condition.Tie as tie
 
-pub time-condition-spec : {M : Type 1} → statement M
+pub time_condition_spec : {M : Type 1} → statement M
 unfolding time_condition
-time-condition-spec =
+time_condition_spec =
     tie.close
     (tie.spec
     (λ c. search rules)

@@ -4,9 +4,9 @@ use Rattle.sections.proofs.ConditionChain.{times}
 use Rattle.sections.proofs.condition.time_to.Statement.{statement}
 use Rattle.sections.proofs.condition.time_to.Tie as tie
 
-pub time-to-spec : {M : Type 1} → statement M
+pub time_to_spec : {M : Type 1} → statement M
 unfolding time_to
-time-to-spec =
+time_to_spec =
     tie.close
     (tie.spec
     (λ c κs. search rules)

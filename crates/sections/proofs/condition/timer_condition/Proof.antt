@@ -4,9 +4,9 @@ use Rattle.sections.proofs.ConditionChain.{phrases}
 use Rattle.sections.proofs.condition.timer_condition.Statement.{statement}
 use Rattle.sections.proofs.condition.timer_condition.Tie as tie
 
-pub timer-condition-spec : {M : Type 1} → statement M
+pub timer_condition_spec : {M : Type 1} → statement M
 unfolding timer_condition
-timer-condition-spec =
+timer_condition_spec =
     tie.close
     (tie.spec
     (λ c. search rules)

@@ -4,9 +4,9 @@ use Rattle.sections.proofs.ConditionChain.{compared}
 use Rattle.sections.proofs.condition.var_compared.Statement.{statement}
 use Rattle.sections.proofs.condition.var_compared.Tie as tie
 
-pub var-compared-spec : {M : Type 1} → statement M
+pub var_compared_spec : {M : Type 1} → statement M
 unfolding var_compared
-var-compared-spec =
+var_compared_spec =
     tie.close
     (tie.spec
     (λ c κs. search rules)

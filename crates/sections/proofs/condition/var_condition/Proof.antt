@@ -4,9 +4,9 @@ use Rattle.sections.proofs.ConditionChain.{compared}
 use Rattle.sections.proofs.condition.var_condition.Statement.{statement}
 use Rattle.sections.proofs.condition.var_condition.Tie as tie
 
-pub var-condition-spec : {M : Type 1} → statement M
+pub var_condition_spec : {M : Type 1} → statement M
 unfolding var_condition
-var-condition-spec =
+var_condition_spec =
     tie.close
     (tie.spec
     (λ c κs. search rules)

@@ -4,9 +4,9 @@ use Rattle.sections.proofs.ConditionChain.{operands}
 use Rattle.sections.proofs.condition.var_operand.Statement.{statement}
 use Rattle.sections.proofs.condition.var_operand.Tie as tie
 
-pub var-operand-spec : {M : Type 1} → statement M
+pub var_operand_spec : {M : Type 1} → statement M
 unfolding operand_at
-var-operand-spec =
+var_operand_spec =
     tie.close
     (tie.spec
     (λ c κs. search rules)

@@ -4,9 +4,9 @@ use Rattle.sections.proofs.ValueChain.{values}
 use Rattle.sections.proofs.expr.delta_at.Statement.{statement}
 use Rattle.sections.proofs.expr.delta_at.Tie as tie
 
-pub delta-at-spec : {M : Type 1} → statement M
+pub delta_at_spec : {M : Type 1} → statement M
 unfolding delta_at
-delta-at-spec =
+delta_at_spec =
     tie.close
     (tie.spec
     (λ c κs. search rules)

@@ -3,9 +3,9 @@ use Rattle.language.specs.Expr.{event_property}
 use Rattle.sections.proofs.expr.event_property.Statement.{statement}
 use Rattle.sections.proofs.expr.event_property.Tie as tie
 
-pub event-property-spec : {M : Type 1} → statement M
+pub event_property_spec : {M : Type 1} → statement M
 unfolding event_property
-event-property-spec =
+event_property_spec =
     tie.close
     (tie.spec
     (λ c. search tests)

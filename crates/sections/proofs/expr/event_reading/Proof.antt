@@ -7,9 +7,9 @@ use Rattle.sections.proofs.ValueChain.{readings}
 use Rattle.sections.proofs.expr.event_reading.Statement.{statement}
 use Rattle.sections.proofs.expr.event_reading.Tie as tie
 
-pub event-reading-spec : {M : Type 1} → statement M
+pub event_reading_spec : {M : Type 1} → statement M
 unfolding event_reading view_of
-event-reading-spec =
+event_reading_spec =
     tie.close
     (tie.spec
     (λ c κs. search rules)

@@ -3,9 +3,9 @@ use Rattle.language.specs.Expr.{group_property}
 use Rattle.sections.proofs.expr.group_property.Statement.{statement}
 use Rattle.sections.proofs.expr.group_property.Tie as tie
 
-pub group-property-spec : {M : Type 1} → statement M
+pub group_property_spec : {M : Type 1} → statement M
 unfolding group_property
-group-property-spec =
+group_property_spec =
     tie.close
     (tie.spec
     (λ c. search tests)

@@ -4,9 +4,9 @@ use Rattle.sections.proofs.ValueChain.{readings}
 use Rattle.sections.proofs.expr.group_reading.Statement.{statement}
 use Rattle.sections.proofs.expr.group_reading.Tie as tie
 
-pub group-reading-spec : {M : Type 1} → statement M
+pub group_reading_spec : {M : Type 1} → statement M
 unfolding group_reading
-group-reading-spec =
+group_reading_spec =
     tie.close
     (tie.spec
     (λ c κs. search rules)

@@ -4,9 +4,9 @@ use Rattle.sections.proofs.ValueChain.{readings}
 use Rattle.sections.proofs.expr.input_reading.Statement.{statement}
 use Rattle.sections.proofs.expr.input_reading.Tie as tie
 
-pub input-reading-spec : {M : Type 1} → statement M
+pub input_reading_spec : {M : Type 1} → statement M
 unfolding input_reading
-input-reading-spec =
+input_reading_spec =
     tie.close
     (tie.spec
     (λ c κs. search rules)

@@ -3,9 +3,9 @@ use Rattle.language.specs.Expr.{lamp_property}
 use Rattle.sections.proofs.expr.lamp_property.Statement.{statement}
 use Rattle.sections.proofs.expr.lamp_property.Tie as tie
 
-pub lamp-property-spec : {M : Type 1} → statement M
+pub lamp_property_spec : {M : Type 1} → statement M
 unfolding lamp_property
-lamp-property-spec =
+lamp_property_spec =
     tie.close
     (tie.spec
     (λ c. search tests)

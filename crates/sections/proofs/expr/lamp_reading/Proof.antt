@@ -4,9 +4,9 @@ use Rattle.sections.proofs.ValueChain.{readings}
 use Rattle.sections.proofs.expr.lamp_reading.Statement.{statement}
 use Rattle.sections.proofs.expr.lamp_reading.Tie as tie
 
-pub lamp-reading-spec : {M : Type 1} → statement M
+pub lamp_reading_spec : {M : Type 1} → statement M
 unfolding lamp_reading
-lamp-reading-spec =
+lamp_reading_spec =
     tie.close
     (tie.spec
     (λ c κs. search rules)

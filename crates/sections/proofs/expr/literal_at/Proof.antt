@@ -4,9 +4,9 @@ use Rattle.sections.proofs.ValueChain.{values}
 use Rattle.sections.proofs.expr.literal_at.Statement.{statement}
 use Rattle.sections.proofs.expr.literal_at.Tie as tie
 
-pub literal-at-spec : {M : Type 1} → statement M
+pub literal_at_spec : {M : Type 1} → statement M
 unfolding literal_at
-literal-at-spec =
+literal_at_spec =
     tie.close
     (tie.spec
     (λ c κs. search rules)

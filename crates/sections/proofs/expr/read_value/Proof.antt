@@ -4,9 +4,9 @@ use Rattle.sections.proofs.ValueChain.{values}
 use Rattle.sections.proofs.expr.read_value.Statement.{statement}
 use Rattle.sections.proofs.expr.read_value.Tie as tie
 
-pub read-value-spec : {M : Type 1} → statement M
+pub read_value_spec : {M : Type 1} → statement M
 unfolding read_value
-read-value-spec =
+read_value_spec =
     tie.close
     (tie.spec
     (λ c κs. search rules)

@@ -4,9 +4,9 @@ use Rattle.sections.proofs.ValueChain.{families}
 use Rattle.sections.proofs.expr.reading.Statement.{statement}
 use Rattle.sections.proofs.expr.reading.Tie as tie
 
-pub reading-spec : {M : Type 1} → statement M
+pub reading_spec : {M : Type 1} → statement M
 unfolding reading_at
-reading-spec =
+reading_spec =
     tie.close
     (tie.spec
     (λ c. search rules)

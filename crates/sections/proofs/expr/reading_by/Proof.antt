@@ -4,9 +4,9 @@ use Rattle.sections.proofs.ValueChain.{families}
 use Rattle.sections.proofs.expr.reading_by.Statement.{statement}
 use Rattle.sections.proofs.expr.reading_by.Tie as tie
 
-pub reading-by-spec : {M : Type 1} → statement M
+pub reading_by_spec : {M : Type 1} → statement M
 unfolding reading_by
-reading-by-spec =
+reading_by_spec =
     tie.close
     (tie.spec
     (λ c κs. search rules)

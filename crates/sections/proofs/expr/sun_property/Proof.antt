@@ -3,9 +3,9 @@ use Rattle.language.specs.Expr.{sun_property}
 use Rattle.sections.proofs.expr.sun_property.Statement.{statement}
 use Rattle.sections.proofs.expr.sun_property.Tie as tie
 
-pub sun-property-spec : {M : Type 1} → statement M
+pub sun_property_spec : {M : Type 1} → statement M
 unfolding sun_property
-sun-property-spec =
+sun_property_spec =
     tie.close
     (tie.spec
     (λ c. search tests)

@@ -4,9 +4,9 @@ use Rattle.sections.proofs.ValueChain.{readings}
 use Rattle.sections.proofs.expr.sun_reading.Statement.{statement}
 use Rattle.sections.proofs.expr.sun_reading.Tie as tie
 
-pub sun-reading-spec : {M : Type 1} → statement M
+pub sun_reading_spec : {M : Type 1} → statement M
 unfolding sun_reading
-sun-reading-spec =
+sun_reading_spec =
     tie.close
     (tie.spec
     (λ c. search rules)

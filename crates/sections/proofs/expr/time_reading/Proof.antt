@@ -4,9 +4,9 @@ use Rattle.sections.proofs.ValueChain.{readings}
 use Rattle.sections.proofs.expr.time_reading.Statement.{statement}
 use Rattle.sections.proofs.expr.time_reading.Tie as tie
 
-pub time-reading-spec : {M : Type 1} → statement M
+pub time_reading_spec : {M : Type 1} → statement M
 unfolding time_reading
-time-reading-spec =
+time_reading_spec =
     tie.close
     (tie.spec
     (λ c. search rules)

@@ -4,9 +4,9 @@ use Rattle.sections.proofs.ValueChain.{values}
 use Rattle.sections.proofs.expr.value_expr.Statement.{statement}
 use Rattle.sections.proofs.expr.value_expr.Tie as tie
 
-pub value-expr-spec : {M : Type 1} → statement M
+pub value_expr_spec : {M : Type 1} → statement M
 unfolding value_at
-value-expr-spec =
+value_expr_spec =
     tie.close
     (tie.spec
     (λ c κs. search rules)

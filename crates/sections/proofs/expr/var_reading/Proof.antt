@@ -4,9 +4,9 @@ use Rattle.sections.proofs.ValueChain.{readings}
 use Rattle.sections.proofs.expr.var_reading.Statement.{statement}
 use Rattle.sections.proofs.expr.var_reading.Tie as tie
 
-pub var-reading-spec : {M : Type 1} → statement M
+pub var_reading_spec : {M : Type 1} → statement M
 unfolding var_reading
-var-reading-spec =
+var_reading_spec =
     tie.close
     (tie.spec
     (λ c κs. search rules)

@@ -4,9 +4,9 @@ use Rattle.sections.proofs.ValueChain.{values}
 use Rattle.sections.proofs.expr.with_delta.Statement.{statement}
 use Rattle.sections.proofs.expr.with_delta.Tie as tie
 
-pub with-delta-spec : {M : Type 1} → statement M
+pub with_delta_spec : {M : Type 1} → statement M
 unfolding with_delta
-with-delta-spec =
+with_delta_spec =
     tie.close
     (tie.spec
     (λ c κs. search rules)

@@ -6,9 +6,9 @@ use Rattle.sections.proofs.FirstLaws.{placed-from, places}
 use Rattle.sections.proofs.first.condition_place.Statement.{statement}
 use Rattle.sections.proofs.first.condition_place.Tie as tie
 
-pub condition-place-spec : {M : Type 1} → statement M
+pub condition_place_spec : {M : Type 1} → statement M
 unfolding words_in split place_from
-condition-place-spec =
+condition_place_spec =
     tie.close
     (tie.spec
     (λ c. search rules)

@@ -6,9 +6,9 @@ use Rattle.sections.proofs.FirstLaws.{places}
 use Rattle.sections.proofs.first.condition_place_from_five.Statement.{statement}
 use Rattle.sections.proofs.first.condition_place_from_five.Tie as tie
 
-pub condition-place-from-five-spec : {M : Type 1} → statement M
+pub condition_place_from_five_spec : {M : Type 1} → statement M
 unfolding words_in split place_from
-condition-place-from-five-spec =
+condition_place_from_five_spec =
     tie.close
     (tie.spec
     (λ c. search rules)

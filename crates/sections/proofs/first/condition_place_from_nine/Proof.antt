@@ -6,9 +6,9 @@ use Rattle.sections.proofs.FirstLaws.{places}
 use Rattle.sections.proofs.first.condition_place_from_nine.Statement.{statement}
 use Rattle.sections.proofs.first.condition_place_from_nine.Tie as tie
 
-pub condition-place-from-nine-spec : {M : Type 1} → statement M
+pub condition_place_from_nine_spec : {M : Type 1} → statement M
 unfolding words_in split place_from
-condition-place-from-nine-spec =
+condition_place_from_nine_spec =
     tie.close
     (tie.spec
     (λ c. search rules)

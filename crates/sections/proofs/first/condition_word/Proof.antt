@@ -4,9 +4,9 @@ use Rattle.sections.proofs.FirstLaws.{firsts}
 use Rattle.sections.proofs.first.condition_word.Statement.{statement}
 use Rattle.sections.proofs.first.condition_word.Tie as tie
 
-pub condition-word-spec : {M : Type 1} → statement M
+pub condition_word_spec : {M : Type 1} → statement M
 unfolding choice_at
-condition-word-spec =
+condition_word_spec =
     tie.close
     (tie.spec
     (λ c κs. search rules)

@@ -3,8 +3,8 @@ use Rattle.tokens.proofs.Chain.{chain}
 use Rattle.sections.proofs.first.placed.Statement.{statement}
 use Rattle.sections.proofs.first.placed.Tie as tie
 
-pub placed-spec : {M : Type 1} → statement M
-placed-spec =
+pub placed_spec : {M : Type 1} → statement M
+placed_spec =
     tie.close
     (tie.spec
     (λ c. search chain depth 12)

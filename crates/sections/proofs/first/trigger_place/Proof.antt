@@ -6,9 +6,9 @@ use Rattle.sections.proofs.FirstLaws.{placed-from, places}
 use Rattle.sections.proofs.first.trigger_place.Statement.{statement}
 use Rattle.sections.proofs.first.trigger_place.Tie as tie
 
-pub trigger-place-spec : {M : Type 1} → statement M
+pub trigger_place_spec : {M : Type 1} → statement M
 unfolding words_in split place_from
-trigger-place-spec =
+trigger_place_spec =
     tie.close
     (tie.spec
     (λ c. search rules)

@@ -6,9 +6,9 @@ use Rattle.sections.proofs.FirstLaws.{places}
 use Rattle.sections.proofs.first.trigger_place_from_nine.Statement.{statement}
 use Rattle.sections.proofs.first.trigger_place_from_nine.Tie as tie
 
-pub trigger-place-from-nine-spec : {M : Type 1} → statement M
+pub trigger_place_from_nine_spec : {M : Type 1} → statement M
 unfolding words_in split place_from
-trigger-place-from-nine-spec =
+trigger_place_from_nine_spec =
     tie.close
     (tie.spec
     (λ c. search rules)

@@ -4,9 +4,9 @@ use Rattle.sections.proofs.FirstLaws.{firsts}
 use Rattle.sections.proofs.first.trigger_word.Statement.{statement}
 use Rattle.sections.proofs.first.trigger_word.Tie as tie
 
-pub trigger-word-spec : {M : Type 1} → statement M
+pub trigger_word_spec : {M : Type 1} → statement M
 unfolding choice_at
-trigger-word-spec =
+trigger_word_spec =
     tie.close
     (tie.spec
     (λ c κs. search rules)

@@ -4,9 +4,9 @@ use Rattle.sections.proofs.ValueChain.{range-made}
 use Rattle.sections.proofs.name.range.Statement.{statement}
 use Rattle.sections.proofs.name.range.Tie as tie
 
-pub range-spec : {M : Type 1} → statement M
+pub range_spec : {M : Type 1} → statement M
 unfolding range_of
-range-spec =
+range_spec =
     tie.close
     (tie.spec
     (λ c κs. search rules)

@@ -4,9 +4,9 @@ use Rattle.sections.proofs.ValueChain.{bounds}
 use Rattle.sections.proofs.timeval.offset_at.Statement.{statement}
 use Rattle.sections.proofs.timeval.offset_at.Tie as tie
 
-pub offset-at-spec : {M : Type 1} → statement M
+pub offset_at_spec : {M : Type 1} → statement M
 unfolding offset_at
-offset-at-spec =
+offset_at_spec =
     tie.close
     (tie.spec
     (λ c κs. search rules)

@@ -4,9 +4,9 @@ use Rattle.sections.proofs.ValueChain.{offsets}
 use Rattle.sections.proofs.timeval.offset_bound.Statement.{statement}
 use Rattle.sections.proofs.timeval.offset_bound.Tie as tie
 
-pub offset-bound-spec : {M : Type 1} → statement M
+pub offset_bound_spec : {M : Type 1} → statement M
 unfolding offset_bound
-offset-bound-spec =
+offset_bound_spec =
     tie.close
     (tie.spec
     (λ c κs. search rules)

@@ -3,9 +3,9 @@ use Rattle.language.specs.Timeval.{solar_event}
 use Rattle.sections.proofs.timeval.solar_event.Statement.{statement}
 use Rattle.sections.proofs.timeval.solar_event.Tie as tie
 
-pub solar-event-spec : {M : Type 1} → statement M
+pub solar_event_spec : {M : Type 1} → statement M
 unfolding solar_event
-solar-event-spec =
+solar_event_spec =
     tie.close
     (tie.spec
     (λ c. search tests)

@@ -4,9 +4,9 @@ use Rattle.sections.proofs.ValueChain.{bounds}
 use Rattle.sections.proofs.timeval.solar_with_offset.Statement.{statement}
 use Rattle.sections.proofs.timeval.solar_with_offset.Tie as tie
 
-pub solar-with-offset-spec : {M : Type 1} → statement M
+pub solar_with_offset_spec : {M : Type 1} → statement M
 unfolding solar_at
-solar-with-offset-spec =
+solar_with_offset_spec =
     tie.close
     (tie.spec
     (λ c. search rules)

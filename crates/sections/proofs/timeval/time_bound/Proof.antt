@@ -4,9 +4,9 @@ use Rattle.sections.proofs.ValueChain.{bounds}
 use Rattle.sections.proofs.timeval.time_bound.Statement.{statement}
 use Rattle.sections.proofs.timeval.time_bound.Tie as tie
 
-pub time-bound-spec : {M : Type 1} → statement M
+pub time_bound_spec : {M : Type 1} → statement M
 unfolding time_bound
-time-bound-spec =
+time_bound_spec =
     tie.close
     (tie.spec
     (λ c κs. search rules)

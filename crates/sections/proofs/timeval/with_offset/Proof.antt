@@ -4,9 +4,9 @@ use Rattle.sections.proofs.ValueChain.{bounds}
 use Rattle.sections.proofs.timeval.with_offset.Statement.{statement}
 use Rattle.sections.proofs.timeval.with_offset.Tie as tie
 
-pub with-offset-spec : {M : Type 1} → statement M
+pub with_offset_spec : {M : Type 1} → statement M
 unfolding with_offset
-with-offset-spec =
+with_offset_spec =
     tie.close
     (tie.spec
     (λ c κs. search rules)

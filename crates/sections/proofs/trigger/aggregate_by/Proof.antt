@@ -3,9 +3,9 @@ use Rattle.language.specs.Trigger.{aggregate_of}
 use Rattle.sections.proofs.trigger.aggregate_by.Statement.{statement}
 use Rattle.sections.proofs.trigger.aggregate_by.Tie as tie
 
-pub aggregate-by-spec : {M : Type 1} → statement M
+pub aggregate_by_spec : {M : Type 1} → statement M
 unfolding aggregate_of
-aggregate-by-spec =
+aggregate_by_spec =
     tie.close
     (tie.spec
     (λ c. search tests)

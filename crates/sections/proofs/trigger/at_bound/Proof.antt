@@ -4,9 +4,9 @@ use Rattle.sections.proofs.TriggerChain.{times}
 use Rattle.sections.proofs.trigger.at_bound.Statement.{statement}
 use Rattle.sections.proofs.trigger.at_bound.Tie as tie
 
-pub at-bound-spec : {M : Type 1} → statement M
+pub at_bound_spec : {M : Type 1} → statement M
 unfolding at_bound
-at-bound-spec =
+at_bound_spec =
     tie.close
     (tie.spec
     (λ c κs. search rules)

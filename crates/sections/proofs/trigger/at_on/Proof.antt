@@ -4,9 +4,9 @@ use Rattle.sections.proofs.TriggerChain.{bounds}
 use Rattle.sections.proofs.trigger.at_on.Statement.{statement}
 use Rattle.sections.proofs.trigger.at_on.Tie as tie
 
-pub at-on-spec : {M : Type 1} → statement M
+pub at_on_spec : {M : Type 1} → statement M
 unfolding at_on
-at-on-spec =
+at_on_spec =
     tie.close
     (tie.spec
     (λ c. search rules)

@@ -4,9 +4,9 @@ use Rattle.sections.proofs.TriggerChain.{times}
 use Rattle.sections.proofs.trigger.at_trigger.Statement.{statement}
 use Rattle.sections.proofs.trigger.at_trigger.Tie as tie
 
-pub at-trigger-spec : {M : Type 1} → statement M
+pub at_trigger_spec : {M : Type 1} → statement M
 unfolding at_trigger
-at-trigger-spec =
+at_trigger_spec =
     tie.close
     (tie.spec
     (λ c κs. search rules)

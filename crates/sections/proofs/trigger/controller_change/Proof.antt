@@ -3,9 +3,9 @@ use Rattle.language.specs.Trigger.{controller_change}
 use Rattle.sections.proofs.trigger.controller_change.Statement.{statement}
 use Rattle.sections.proofs.trigger.controller_change.Tie as tie
 
-pub controller-change-spec : {M : Type 1} → statement M
+pub controller_change_spec : {M : Type 1} → statement M
 unfolding controller_change
-controller-change-spec =
+controller_change_spec =
     tie.close
     (tie.spec
     (λ c. search tests)

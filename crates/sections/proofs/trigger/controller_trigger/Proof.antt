@@ -4,9 +4,9 @@ use Rattle.sections.proofs.TriggerChain.{phrases}
 use Rattle.sections.proofs.trigger.controller_trigger.Statement.{statement}
 use Rattle.sections.proofs.trigger.controller_trigger.Tie as tie
 
-pub controller-trigger-spec : {M : Type 1} → statement M
+pub controller_trigger_spec : {M : Type 1} → statement M
 unfolding controller_trigger
-controller-trigger-spec =
+controller_trigger_spec =
     tie.close
     (tie.spec
     (λ c. search rules)

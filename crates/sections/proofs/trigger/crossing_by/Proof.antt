@@ -3,9 +3,9 @@ use Rattle.language.specs.Trigger.{crossing_of}
 use Rattle.sections.proofs.trigger.crossing_by.Statement.{statement}
 use Rattle.sections.proofs.trigger.crossing_by.Tie as tie
 
-pub crossing-by-spec : {M : Type 1} → statement M
+pub crossing_by_spec : {M : Type 1} → statement M
 unfolding crossing_of
-crossing-by-spec =
+crossing_by_spec =
     tie.close
     (tie.spec
     (λ c. search tests)

@@ -4,9 +4,9 @@ use Rattle.sections.proofs.TriggerChain.{changes}
 use Rattle.sections.proofs.trigger.device_trigger.Statement.{statement}
 use Rattle.sections.proofs.trigger.device_trigger.Tie as tie
 
-pub device-trigger-spec : {M : Type 1} → statement M
+pub device_trigger_spec : {M : Type 1} → statement M
 unfolding device_trigger
-device-trigger-spec =
+device_trigger_spec =
     tie.close
     (tie.spec
     (λ c κs. search rules)

@@ -4,9 +4,9 @@ use Rattle.sections.proofs.TriggerChain.{events}
 use Rattle.sections.proofs.trigger.event_match.Statement.{statement}
 use Rattle.sections.proofs.trigger.event_match.Tie as tie
 
-pub event-match-spec : {M : Type 1} → statement M
+pub event_match_spec : {M : Type 1} → statement M
 unfolding event_at
-event-match-spec =
+event_match_spec =
     tie.close
     (tie.spec
     (λ c. search rules)

@@ -4,9 +4,9 @@ use Rattle.sections.proofs.TriggerChain.{times}
 use Rattle.sections.proofs.trigger.every_trigger.Statement.{statement}
 use Rattle.sections.proofs.trigger.every_trigger.Tie as tie
 
-pub every-trigger-spec : {M : Type 1} → statement M
+pub every_trigger_spec : {M : Type 1} → statement M
 unfolding every_trigger
-every-trigger-spec =
+every_trigger_spec =
     tie.close
     (tie.spec
     (λ c κs. search rules)

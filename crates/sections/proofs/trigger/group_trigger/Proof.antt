@@ -4,9 +4,9 @@ use Rattle.sections.proofs.TriggerChain.{changes}
 use Rattle.sections.proofs.trigger.group_trigger.Statement.{statement}
 use Rattle.sections.proofs.trigger.group_trigger.Tie as tie
 
-pub group-trigger-spec : {M : Type 1} → statement M
+pub group_trigger_spec : {M : Type 1} → statement M
 unfolding group_trigger
-group-trigger-spec =
+group_trigger_spec =
     tie.close
     (tie.spec
     (λ c κs. search rules)

@@ -4,9 +4,9 @@ use Rattle.sections.proofs.TriggerChain.{changes}
 use Rattle.sections.proofs.trigger.hcl_trigger.Statement.{statement}
 use Rattle.sections.proofs.trigger.hcl_trigger.Tie as tie
 
-pub hcl-trigger-spec : {M : Type 1} → statement M
+pub hcl_trigger_spec : {M : Type 1} → statement M
 unfolding hcl_trigger
-hcl-trigger-spec =
+hcl_trigger_spec =
     tie.close
     (tie.spec
     (λ c. search rules)

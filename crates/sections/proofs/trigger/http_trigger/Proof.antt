@@ -4,9 +4,9 @@ use Rattle.sections.proofs.TriggerChain.{phrases}
 use Rattle.sections.proofs.trigger.http_trigger.Statement.{statement}
 use Rattle.sections.proofs.trigger.http_trigger.Tie as tie
 
-pub http-trigger-spec : {M : Type 1} → statement M
+pub http_trigger_spec : {M : Type 1} → statement M
 unfolding http_trigger
-http-trigger-spec =
+http_trigger_spec =
     tie.close
     (tie.spec
     (λ c. search rules)

@@ -4,9 +4,9 @@ use Rattle.sections.proofs.TriggerChain.{changes}
 use Rattle.sections.proofs.trigger.input_becomes.Statement.{statement}
 use Rattle.sections.proofs.trigger.input_becomes.Tie as tie
 
-pub input-becomes-spec : {M : Type 1} → statement M
+pub input_becomes_spec : {M : Type 1} → statement M
 unfolding input_becomes
-input-becomes-spec =
+input_becomes_spec =
     tie.close
     (tie.spec
     (λ c κs. search rules)

@@ -4,9 +4,9 @@ use Rattle.sections.proofs.TriggerChain.{inputs}
 use Rattle.sections.proofs.trigger.input_change.Statement.{statement}
 use Rattle.sections.proofs.trigger.input_change.Tie as tie
 
-pub input-change-spec : {M : Type 1} → statement M
+pub input_change_spec : {M : Type 1} → statement M
 unfolding input_change
-input-change-spec =
+input_change_spec =
     tie.close
     (tie.spec
     (λ c. search rules)

@@ -3,9 +3,9 @@ use Rattle.language.specs.Trigger.{input_device_change}
 use Rattle.sections.proofs.trigger.input_device_change.Statement.{statement}
 use Rattle.sections.proofs.trigger.input_device_change.Tie as tie
 
-pub input-device-change-spec : {M : Type 1} → statement M
+pub input_device_change_spec : {M : Type 1} → statement M
 unfolding input_device_change
-input-device-change-spec =
+input_device_change_spec =
     tie.close
     (tie.spec
     (λ c. search tests)

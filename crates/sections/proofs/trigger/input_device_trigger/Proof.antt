@@ -4,9 +4,9 @@ use Rattle.sections.proofs.TriggerChain.{changes}
 use Rattle.sections.proofs.trigger.input_device_trigger.Statement.{statement}
 use Rattle.sections.proofs.trigger.input_device_trigger.Tie as tie
 
-pub input-device-trigger-spec : {M : Type 1} → statement M
+pub input_device_trigger_spec : {M : Type 1} → statement M
 unfolding input_device_trigger
-input-device-trigger-spec =
+input_device_trigger_spec =
     tie.close
     (tie.spec
     (λ c κs. search rules)

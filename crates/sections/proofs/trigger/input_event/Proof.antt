@@ -4,9 +4,9 @@ use Rattle.sections.proofs.TriggerChain.{inputs}
 use Rattle.sections.proofs.trigger.input_event.Statement.{statement}
 use Rattle.sections.proofs.trigger.input_event.Tie as tie
 
-pub input-event-spec : {M : Type 1} → statement M
+pub input_event_spec : {M : Type 1} → statement M
 unfolding input_event
-input-event-spec =
+input_event_spec =
     tie.close
     (tie.spec
     (λ c κs. search rules)

@@ -4,9 +4,9 @@ use Rattle.sections.proofs.TriggerChain.{inputs}
 use Rattle.sections.proofs.trigger.input_trigger.Statement.{statement}
 use Rattle.sections.proofs.trigger.input_trigger.Tie as tie
 
-pub input-trigger-spec : {M : Type 1} → statement M
+pub input_trigger_spec : {M : Type 1} → statement M
 unfolding input_trigger
-input-trigger-spec =
+input_trigger_spec =
     tie.close
     (tie.spec
     (λ c. search rules)

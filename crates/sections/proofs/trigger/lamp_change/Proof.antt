@@ -4,9 +4,9 @@ use Rattle.sections.proofs.TriggerChain.{changes}
 use Rattle.sections.proofs.trigger.lamp_change.Statement.{statement}
 use Rattle.sections.proofs.trigger.lamp_change.Tie as tie
 
-pub lamp-change-spec : {M : Type 1} → statement M
+pub lamp_change_spec : {M : Type 1} → statement M
 unfolding lamp_change
-lamp-change-spec =
+lamp_change_spec =
     tie.close
     (tie.spec
     (λ c. search rules)

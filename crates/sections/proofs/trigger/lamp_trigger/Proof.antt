@@ -4,9 +4,9 @@ use Rattle.sections.proofs.TriggerChain.{changes}
 use Rattle.sections.proofs.trigger.lamp_trigger.Statement.{statement}
 use Rattle.sections.proofs.trigger.lamp_trigger.Tie as tie
 
-pub lamp-trigger-spec : {M : Type 1} → statement M
+pub lamp_trigger_spec : {M : Type 1} → statement M
 unfolding lamp_trigger
-lamp-trigger-spec =
+lamp_trigger_spec =
     tie.close
     (tie.spec
     (λ c κs. search rules)

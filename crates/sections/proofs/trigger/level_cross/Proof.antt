@@ -5,9 +5,9 @@ use Rattle.sections.proofs.TriggerChain.{changes}
 use Rattle.sections.proofs.trigger.level_cross.Statement.{statement}
 use Rattle.sections.proofs.trigger.level_cross.Tie as tie
 
-pub level-cross-spec : {M : Type 1} → statement M
+pub level_cross_spec : {M : Type 1} → statement M
 unfolding level_cross last_level
-level-cross-spec =
+level_cross_spec =
     tie.close
     (tie.spec
     (λ c. search rules)

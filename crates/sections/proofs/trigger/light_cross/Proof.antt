@@ -5,9 +5,9 @@ use Rattle.sections.proofs.TriggerChain.{changes}
 use Rattle.sections.proofs.trigger.light_cross.Statement.{statement}
 use Rattle.sections.proofs.trigger.light_cross.Tie as tie
 
-pub light-cross-spec : {M : Type 1} → statement M
+pub light_cross_spec : {M : Type 1} → statement M
 unfolding light_cross last_event_information
-light-cross-spec =
+light_cross_spec =
     tie.close
     (tie.spec
     (λ c. search rules)

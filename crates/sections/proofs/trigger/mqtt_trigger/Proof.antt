@@ -4,9 +4,9 @@ use Rattle.sections.proofs.TriggerChain.{messages}
 use Rattle.sections.proofs.trigger.mqtt_trigger.Statement.{statement}
 use Rattle.sections.proofs.trigger.mqtt_trigger.Tie as tie
 
-pub mqtt-trigger-spec : {M : Type 1} → statement M
+pub mqtt_trigger_spec : {M : Type 1} → statement M
 unfolding mqtt_trigger
-mqtt-trigger-spec =
+mqtt_trigger_spec =
     tie.close
     (tie.spec
     (λ c κs. search rules)

@@ -3,9 +3,9 @@ use Rattle.language.specs.Trigger.{override_of}
 use Rattle.sections.proofs.trigger.override_by.Statement.{statement}
 use Rattle.sections.proofs.trigger.override_by.Tie as tie
 
-pub override-by-spec : {M : Type 1} → statement M
+pub override_by_spec : {M : Type 1} → statement M
 unfolding override_of
-override-by-spec =
+override_by_spec =
     tie.close
     (tie.spec
     (λ c. search tests)

@@ -4,9 +4,9 @@ use Rattle.sections.proofs.TriggerChain.{inputs}
 use Rattle.sections.proofs.trigger.point_trigger.Statement.{statement}
 use Rattle.sections.proofs.trigger.point_trigger.Tie as tie
 
-pub point-trigger-spec : {M : Type 1} → statement M
+pub point_trigger_spec : {M : Type 1} → statement M
 unfolding point_trigger
-point-trigger-spec =
+point_trigger_spec =
     tie.close
     (tie.spec
     (λ c κs. search rules)

@@ -4,9 +4,9 @@ use Rattle.sections.proofs.TriggerChain.{changes}
 use Rattle.sections.proofs.trigger.position_change.Statement.{statement}
 use Rattle.sections.proofs.trigger.position_change.Tie as tie
 
-pub position-change-spec : {M : Type 1} → statement M
+pub position_change_spec : {M : Type 1} → statement M
 unfolding position_change
-position-change-spec =
+position_change_spec =
     tie.close
     (tie.spec
     (λ c. search rules)

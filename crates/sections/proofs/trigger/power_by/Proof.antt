@@ -3,9 +3,9 @@ use Rattle.language.specs.Trigger.{power_of}
 use Rattle.sections.proofs.trigger.power_by.Statement.{statement}
 use Rattle.sections.proofs.trigger.power_by.Tie as tie
 
-pub power-by-spec : {M : Type 1} → statement M
+pub power_by_spec : {M : Type 1} → statement M
 unfolding power_of
-power-by-spec =
+power_by_spec =
     tie.close
     (tie.spec
     (λ c. search tests)

@@ -4,9 +4,9 @@ use Rattle.sections.proofs.TriggerChain.{inputs}
 use Rattle.sections.proofs.trigger.property_trigger.Statement.{statement}
 use Rattle.sections.proofs.trigger.property_trigger.Tie as tie
 
-pub property-trigger-spec : {M : Type 1} → statement M
+pub property_trigger_spec : {M : Type 1} → statement M
 unfolding property_trigger
-property-trigger-spec =
+property_trigger_spec =
     tie.close
     (tie.spec
     (λ c κs. search rules)

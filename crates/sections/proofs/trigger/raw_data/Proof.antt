@@ -5,9 +5,9 @@ use Rattle.sections.proofs.TriggerChain.{events}
 use Rattle.sections.proofs.trigger.raw_data.Statement.{statement}
 use Rattle.sections.proofs.trigger.raw_data.Tie as tie
 
-pub raw-data-spec : {M : Type 1} → statement M
+pub raw_data_spec : {M : Type 1} → statement M
 unfolding raw_data last_event_information
-raw-data-spec =
+raw_data_spec =
     tie.close
     (tie.spec
     (λ c κs. search rules)

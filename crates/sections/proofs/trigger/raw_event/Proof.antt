@@ -4,9 +4,9 @@ use Rattle.sections.proofs.TriggerChain.{events}
 use Rattle.sections.proofs.trigger.raw_event.Statement.{statement}
 use Rattle.sections.proofs.trigger.raw_event.Tie as tie
 
-pub raw-event-spec : {M : Type 1} → statement M
+pub raw_event_spec : {M : Type 1} → statement M
 unfolding raw_event
-raw-event-spec =
+raw_event_spec =
     tie.close
     (tie.spec
     (λ c κs. search rules)

@@ -4,9 +4,9 @@ use Rattle.sections.proofs.TriggerChain.{phrases}
 use Rattle.sections.proofs.trigger.rule_trigger.Statement.{statement}
 use Rattle.sections.proofs.trigger.rule_trigger.Tie as tie
 
-pub rule-trigger-spec : {M : Type 1} → statement M
+pub rule_trigger_spec : {M : Type 1} → statement M
 unfolding rule_trigger
-rule-trigger-spec =
+rule_trigger_spec =
     tie.close
     (tie.spec
     (λ c. search rules)

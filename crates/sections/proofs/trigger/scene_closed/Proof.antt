@@ -4,9 +4,9 @@ use Rattle.sections.proofs.TriggerChain.{scenes}
 use Rattle.sections.proofs.trigger.scene_closed.Statement.{statement}
 use Rattle.sections.proofs.trigger.scene_closed.Tie as tie
 
-pub scene-closed-spec : {M : Type 1} → statement M
+pub scene_closed_spec : {M : Type 1} → statement M
 unfolding scene_closed
-scene-closed-spec =
+scene_closed_spec =
     tie.close
     (tie.spec
     (λ c κs. search rules)

@@ -5,9 +5,9 @@ use Rattle.sections.proofs.TriggerChain.{scenes}
 use Rattle.sections.proofs.trigger.scene_trigger.Statement.{statement}
 use Rattle.sections.proofs.trigger.scene_trigger.Tie as tie
 
-pub scene-trigger-spec : {M : Type 1} → statement M
+pub scene_trigger_spec : {M : Type 1} → statement M
 unfolding scene_trigger last_scene
-scene-trigger-spec =
+scene_trigger_spec =
     tie.close
     (tie.spec
     (λ c κs. search rules)

@@ -4,9 +4,9 @@ use Rattle.sections.proofs.TriggerChain.{phrases}
 use Rattle.sections.proofs.trigger.timer_trigger.Statement.{statement}
 use Rattle.sections.proofs.trigger.timer_trigger.Tie as tie
 
-pub timer-trigger-spec : {M : Type 1} → statement M
+pub timer_trigger_spec : {M : Type 1} → statement M
 unfolding timer_trigger
-timer-trigger-spec =
+timer_trigger_spec =
     tie.close
     (tie.spec
     (λ c. search rules)

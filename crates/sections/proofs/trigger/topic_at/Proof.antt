@@ -4,9 +4,9 @@ use Rattle.sections.proofs.TriggerChain.{topics}
 use Rattle.sections.proofs.trigger.topic_at.Statement.{statement}
 use Rattle.sections.proofs.trigger.topic_at.Tie as tie
 
-pub topic-at-spec : {M : Type 1} → statement M
+pub topic_at_spec : {M : Type 1} → statement M
 unfolding topic_at
-topic-at-spec =
+topic_at_spec =
     tie.close
     (tie.spec
     (λ c κs. search rules)

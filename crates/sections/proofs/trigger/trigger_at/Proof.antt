@@ -4,9 +4,9 @@ use Rattle.sections.proofs.TriggerChain.{choices}
 use Rattle.sections.proofs.trigger.trigger_at.Statement.{statement}
 use Rattle.sections.proofs.trigger.trigger_at.Tie as tie
 
-pub trigger-at-spec : {M : Type 1} → statement M
+pub trigger_at_spec : {M : Type 1} → statement M
 unfolding trigger_at
-trigger-at-spec =
+trigger_at_spec =
     tie.close
     (tie.spec
     (λ c κs. search rules)

@@ -4,9 +4,9 @@ use Rattle.sections.proofs.TriggerChain.{choices}
 use Rattle.sections.proofs.trigger.trigger_by.Statement.{statement}
 use Rattle.sections.proofs.trigger.trigger_by.Tie as tie
 
-pub trigger-by-spec : {M : Type 1} → statement M
+pub trigger_by_spec : {M : Type 1} → statement M
 unfolding trigger_by
-trigger-by-spec =
+trigger_by_spec =
     tie.close
     (tie.spec
     (λ c κs. search rules)

@@ -4,9 +4,9 @@ use Rattle.sections.proofs.ValueChain.{indexes}
 use Rattle.sections.proofs.words.named_phrase.Statement.{statement}
 use Rattle.sections.proofs.words.named_phrase.Tie as tie
 
-pub named-phrase-spec : {M : Type 1} → statement M
+pub named_phrase_spec : {M : Type 1} → statement M
 unfolding named_phrase
-named-phrase-spec =
+named_phrase_spec =
     tie.close
     (tie.spec
     (λ c κs. search rules)

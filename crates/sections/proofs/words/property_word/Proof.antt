@@ -4,9 +4,9 @@ use Rattle.sections.proofs.ValueChain.{indexes}
 use Rattle.sections.proofs.words.property_word.Statement.{statement}
 use Rattle.sections.proofs.words.property_word.Tie as tie
 
-pub property-word-spec : {M : Type 1} → statement M
+pub property_word_spec : {M : Type 1} → statement M
 unfolding property_word
-property-word-spec =
+property_word_spec =
     tie.close
     (tie.spec
     (λ c κs. search rules)

@@ -4,9 +4,9 @@ use Rattle.sections.proofs.ValueChain.{targets}
 use Rattle.sections.proofs.words.target_for.Statement.{statement}
 use Rattle.sections.proofs.words.target_for.Tie as tie
 
-pub target-for-spec : {M : Type 1} → statement M
+pub target_for_spec : {M : Type 1} → statement M
 unfolding target_for
-target-for-spec =
+target_for_spec =
     tie.close
     (tie.spec
     (λ c. search rules)

@@ -17,5 +17,5 @@ module _ (all : Bool) where
   unfolding packed bits_from words_from
   none h = rw h
 
-pub all-if-spec : {M : Type 1} → statement M
-all-if-spec = tie.close (tie.spec (λ c. search (rules, every)) (λ c. search (rules, none)))
+pub all_if_spec : {M : Type 1} → statement M
+all_if_spec = tie.close (tie.spec (λ c. search (rules, every)) (λ c. search (rules, none)))

@@ -21,8 +21,8 @@ known : (s : Adapters) (a : ℕ) → a ≤ last_adapter →
 unfolding has
 known s a h = rw (le-leb a last_adapter h, and_mask (get_or s.words (a / word_bits) 0 / 2 ^ (a % word_bits)) 1)
 
-pub has-spec : {M : Type 1} → statement M
-has-spec =
+pub has_spec : {M : Type 1} → statement M
+has_spec =
     tie.close
     (tie.spec
     (λ c. search (rules, beyond))

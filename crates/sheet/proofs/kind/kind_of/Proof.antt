@@ -4,9 +4,9 @@ use Rattle.sheet.specs.Kind.{kind_of}
 use Rattle.sheet.proofs.kind.kind_of.Statement.{statement}
 use Rattle.sheet.proofs.kind.kind_of.Tie as tie
 
-pub kind-of-spec : {M : Type 1} → statement M
+pub kind_of_spec : {M : Type 1} → statement M
 unfolding kind_of
-kind-of-spec =
+kind_of_spec =
     tie.close
     (tie.spec
     (λ c. search rules)

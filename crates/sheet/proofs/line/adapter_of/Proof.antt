@@ -3,9 +3,9 @@ use Rattle.sheet.proofs.line.adapter_of.Statement.{statement}
 use Rattle.sheet.specs.Line.{adapter_of}
 use Rattle.sheet.proofs.line.adapter_of.Tie as tie
 
-pub adapter-of-spec : {M : Type 1} → statement M
+pub adapter_of_spec : {M : Type 1} → statement M
 unfolding adapter_of
-adapter-of-spec =
+adapter_of_spec =
     tie.close
     (tie.spec
     (λ c. search steps depth 12)

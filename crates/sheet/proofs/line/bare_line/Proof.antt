@@ -7,9 +7,9 @@ use Rattle.sheet.proofs.LineLaws.{reading}
 use Rattle.sheet.proofs.line.bare_line.Statement.{statement}
 use Rattle.sheet.proofs.line.bare_line.Tie as tie
 
-pub bare-line-spec : {M : Type 1} → statement M
+pub bare_line_spec : {M : Type 1} → statement M
 unfolding bare_line
-bare-line-spec =
+bare_line_spec =
     tie.close
     (tie.spec
     (λ c κs. search rules)

@@ -3,8 +3,8 @@ use Rattle.sheet.proofs.LineLaws.{reading}
 use Rattle.sheet.proofs.line.bare_name.Statement.{statement}
 use Rattle.sheet.proofs.line.bare_name.Tie as tie
 
-pub bare-name-spec : {M : Type 1} → statement M
-bare-name-spec =
+pub bare_name_spec : {M : Type 1} → statement M
+bare_name_spec =
     tie.close
     (tie.spec
     (λ c κs. search rules)

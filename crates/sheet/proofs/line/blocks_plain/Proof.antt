@@ -14,8 +14,8 @@ invariant-loop l last at₀ at = plain (drop at l) ≡ plain l
 abbrev decreases-loop : tie.decreases-loop
 decreases-loop l last at₀ at = length l - at
 
-pub blocks-plain-spec : {M : Type 1} → statement M
-blocks-plain-spec =
+pub blocks_plain_spec : {M : Type 1} → statement M
+blocks_plain_spec =
     tie.close
     (tie.spec
     invariant-loop

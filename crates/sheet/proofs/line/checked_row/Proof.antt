@@ -4,9 +4,9 @@ use Rattle.sheet.proofs.LineLaws.{reading}
 use Rattle.sheet.proofs.line.checked_row.Statement.{statement}
 use Rattle.sheet.proofs.line.checked_row.Tie as tie
 
-pub checked-row-spec : {M : Type 1} → statement M
+pub checked_row_spec : {M : Type 1} → statement M
 unfolding checked_row
-checked-row-spec =
+checked_row_spec =
     tie.close
     (tie.spec
     (λ c. search reading)

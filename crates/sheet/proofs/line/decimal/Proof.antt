@@ -3,8 +3,8 @@ use Rattle.sheet.proofs.LineLaws.{reading}
 use Rattle.sheet.proofs.line.decimal.Statement.{statement}
 use Rattle.sheet.proofs.line.decimal.Tie as tie
 
-pub decimal-spec : {M : Type 1} → statement M
-decimal-spec =
+pub decimal_spec : {M : Type 1} → statement M
+decimal_spec =
     tie.close
     (tie.spec
     (λ c. search reading)

@@ -15,8 +15,8 @@ invariant-loop l value₀ i₀ value i = (value ≤ 999) × (digits_on value (dr
 abbrev decreases-loop : tie.decreases-loop
 decreases-loop l value₀ i₀ value i = length l - i
 
-pub digits-from-spec : {M : Type 1} → statement M
-digits-from-spec =
+pub digits_from_spec : {M : Type 1} → statement M
+digits_from_spec =
     tie.close
     (tie.spec
     invariant-loop

@@ -14,8 +14,8 @@ invariant-loop l i₀ i = plain (drop i l) ≡ plain l
 abbrev decreases-loop : tie.decreases-loop
 decreases-loop l i₀ i = length l - i
 
-pub each-plain-spec : {M : Type 1} → statement M
-each-plain-spec =
+pub each_plain_spec : {M : Type 1} → statement M
+each_plain_spec =
     tie.close
     (tie.spec
     invariant-loop

@@ -21,8 +21,8 @@ opposite : (b : ℕ) → not (other b) ≡ not (is_mark b)
 unfolding is_mark
 opposite b = neither (eqb b 0x22) (eqb b 0x0D)
 
-pub eight-unmarked-spec : {M : Type 1} → statement M
-eight-unmarked-spec =
+pub eight_unmarked_spec : {M : Type 1} → statement M
+eight_unmarked_spec =
     tie.close
     (tie.spec
     (λ c. block-past _ _ _ (search rules))

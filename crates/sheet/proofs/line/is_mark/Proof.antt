@@ -13,9 +13,9 @@ above : (c : ℕ) → 0x22 < c → false ≡ is_mark c
 unfolding is_mark
 above c h = rw (ne_eqb c 0x22 (λ e. omega arith), ne_eqb c 0x0D (λ e. omega arith))
 
-pub is-mark-spec : {M : Type 1} → statement M
+pub is_mark_spec : {M : Type 1} → statement M
 unfolding is_mark
-is-mark-spec =
+is_mark_spec =
     tie.close
     (tie.spec
     (λ c. search (rules, above))

@@ -4,9 +4,9 @@ use Rattle.sheet.proofs.LineLaws.{reading}
 use Rattle.sheet.proofs.line.is_name.Statement.{statement}
 use Rattle.sheet.proofs.line.is_name.Tie as tie
 
-pub is-name-spec : {M : Type 1} → statement M
+pub is_name_spec : {M : Type 1} → statement M
 unfolding is_name
-is-name-spec =
+is_name_spec =
     tie.close
     (tie.spec
     (λ c. search reading)

@@ -4,9 +4,9 @@ use Rattle.sheet.proofs.LineLaws.{reading}
 use Rattle.sheet.proofs.line.line_by.Statement.{statement}
 use Rattle.sheet.proofs.line.line_by.Tie as tie
 
-pub line-by-spec : {M : Type 1} → statement M
+pub line_by_spec : {M : Type 1} → statement M
 unfolding line_by
-line-by-spec =
+line_by_spec =
     tie.close
     (tie.spec
     (λ c. search rules)

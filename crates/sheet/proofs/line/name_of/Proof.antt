@@ -3,8 +3,8 @@ use Rattle.sheet.proofs.LineLaws.{reading}
 use Rattle.sheet.proofs.line.name_of.Statement.{statement}
 use Rattle.sheet.proofs.line.name_of.Tie as tie
 
-pub name-of-spec : {M : Type 1} → statement M
-name-of-spec =
+pub name_of_spec : {M : Type 1} → statement M
+name_of_spec =
     tie.close
     (tie.spec
     (λ c κs. search rules)

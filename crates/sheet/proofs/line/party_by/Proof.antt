@@ -3,9 +3,9 @@ use Rattle.sheet.specs.Line.{party_by}
 use Rattle.sheet.proofs.line.party_by.Statement.{statement}
 use Rattle.sheet.proofs.line.party_by.Tie as tie
 
-pub party-by-spec : {M : Type 1} → statement M
+pub party_by_spec : {M : Type 1} → statement M
 unfolding party_by
-party-by-spec =
+party_by_spec =
     tie.close
     (tie.spec
     (λ c. search steps depth 12)

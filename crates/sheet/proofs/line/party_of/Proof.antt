@@ -7,9 +7,9 @@ use Rattle.sheet.proofs.LineLaws.{reading}
 use Rattle.sheet.proofs.line.party_of.Statement.{statement}
 use Rattle.sheet.proofs.line.party_of.Tie as tie
 
-pub party-of-spec : {M : Type 1} → statement M
+pub party_of_spec : {M : Type 1} → statement M
 unfolding party_of
-party-of-spec =
+party_of_spec =
     tie.close
     (tie.spec
     (λ c κs. search rules)

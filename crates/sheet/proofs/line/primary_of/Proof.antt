@@ -3,9 +3,9 @@ use Rattle.sheet.proofs.line.primary_of.Statement.{statement}
 use Rattle.sheet.specs.Line.{primary_of}
 use Rattle.sheet.proofs.line.primary_of.Tie as tie
 
-pub primary-of-spec : {M : Type 1} → statement M
+pub primary_of_spec : {M : Type 1} → statement M
 unfolding primary_of
-primary-of-spec =
+primary_of_spec =
     tie.close
     (tie.spec
     (λ c. search steps depth 12)

@@ -7,9 +7,9 @@ use Rattle.sheet.proofs.LineLaws.{reading}
 use Rattle.sheet.proofs.line.read_row.Statement.{statement}
 use Rattle.sheet.proofs.line.read_row.Tie as tie
 
-pub read-row-spec : {M : Type 1} → statement M
+pub read_row_spec : {M : Type 1} → statement M
 unfolding read_row
-read-row-spec =
+read_row_spec =
     tie.close
     (tie.spec
     (λ c κs. search rules)

@@ -6,8 +6,8 @@ use Rattle.sheet.proofs.LineLaws.{reading}
 use Rattle.sheet.proofs.line.without_return.Statement.{statement}
 use Rattle.sheet.proofs.line.without_return.Tie as tie
 
-pub without-return-spec : {M : Type 1} → statement M
-without-return-spec =
+pub without_return_spec : {M : Type 1} → statement M
+without_return_spec =
     tie.close
     (tie.spec
     (λ c. search reading)

@@ -4,9 +4,9 @@ use Rattle.sheet.proofs.NamesLaws.{naming}
 use Rattle.sheet.proofs.names.form_of.Statement.{statement}
 use Rattle.sheet.proofs.names.form_of.Tie as tie
 
-pub form-of-spec : {M : Type 1} → statement M
+pub form_of_spec : {M : Type 1} → statement M
 unfolding form_of
-form-of-spec =
+form_of_spec =
     tie.close
     (tie.spec
     (λ c κs. search rules)

@@ -4,9 +4,9 @@ use Rattle.sheet.proofs.NamesLaws.{naming}
 use Rattle.sheet.proofs.names.is_for_line.Statement.{statement}
 use Rattle.sheet.proofs.names.is_for_line.Tie as tie
 
-pub is-for-line-spec : {M : Type 1} → statement M
+pub is_for_line_spec : {M : Type 1} → statement M
 unfolding is_for_line
-is-for-line-spec =
+is_for_line_spec =
     tie.close
     (tie.spec
     (λ c κs. search rules)

@@ -4,9 +4,9 @@ use Rattle.sheet.proofs.NamesLaws.{naming}
 use Rattle.sheet.proofs.names.is_found.Statement.{statement}
 use Rattle.sheet.proofs.names.is_found.Tie as tie
 
-pub is-found-spec : {M : Type 1} → statement M
+pub is_found_spec : {M : Type 1} → statement M
 unfolding is_found
-is-found-spec =
+is_found_spec =
     tie.close
     (tie.spec
     (λ c. search rules)

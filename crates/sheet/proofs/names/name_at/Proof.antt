@@ -19,9 +19,9 @@ invariant-loop s of k own left₀ at₀ left at =
 abbrev decreases-loop : tie.decreases-loop
 decreases-loop s of k own left₀ at₀ left at = length s - at
 
-pub name-at-spec : {M : Type 1} → statement M
+pub name_at_spec : {M : Type 1} → statement M
 unfolding view_of
-name-at-spec =
+name_at_spec =
     tie.close
     (tie.spec
     invariant-loop

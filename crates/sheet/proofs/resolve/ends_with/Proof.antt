@@ -4,8 +4,8 @@ use Rattle.sheet.proofs.SkipLaws.{ends-short, ends-compared}
 use Rattle.sheet.proofs.resolve.ends_with.Statement.{statement}
 use Rattle.sheet.proofs.resolve.ends_with.Tie as tie
 
-pub ends-with-spec : {M : Type 1} → statement M
-ends-with-spec =
+pub ends_with_spec : {M : Type 1} → statement M
+ends_with_spec =
     tie.close
     (tie.spec
     (λ c. search (rules, ends-short))

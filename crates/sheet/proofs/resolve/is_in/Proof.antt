@@ -4,9 +4,9 @@ use Rattle.sheet.proofs.ResolveLaws.{lookups}
 use Rattle.sheet.proofs.resolve.is_in.Statement.{statement}
 use Rattle.sheet.proofs.resolve.is_in.Tie as tie
 
-pub is-in-spec : {M : Type 1} → statement M
+pub is_in_spec : {M : Type 1} → statement M
 unfolding is_in
-is-in-spec =
+is_in_spec =
     tie.close
     (tie.spec
     (λ c. search rules)

@@ -5,9 +5,9 @@ use Rattle.sheet.proofs.ResolveLaws.{same-tally}
 use Rattle.sheet.proofs.resolve.other_tally.Statement.{statement}
 use Rattle.sheet.proofs.resolve.other_tally.Tie as tie
 
-pub other-tally-spec : {M : Type 1} → statement M
+pub other_tally_spec : {M : Type 1} → statement M
 unfolding other_tally
-other-tally-spec =
+other_tally_spec =
     tie.close
     (tie.spec
     (λ c κs. search rules)

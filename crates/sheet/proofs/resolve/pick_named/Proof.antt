@@ -6,9 +6,9 @@ use Rattle.sheet.proofs.ResolveLaws.{found-tally}
 use Rattle.sheet.proofs.resolve.pick_named.Statement.{statement}
 use Rattle.sheet.proofs.resolve.pick_named.Tie as tie
 
-pub pick-named-spec : {M : Type 1} → statement M
+pub pick_named_spec : {M : Type 1} → statement M
 unfolding view_of
-pick-named-spec =
+pick_named_spec =
     tie.close
     (tie.spec
     (λ c κs. search rules)

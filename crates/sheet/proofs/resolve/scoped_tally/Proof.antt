@@ -5,9 +5,9 @@ use Rattle.sheet.proofs.ResolveLaws.{same-tally}
 use Rattle.sheet.proofs.resolve.scoped_tally.Statement.{statement}
 use Rattle.sheet.proofs.resolve.scoped_tally.Tie as tie
 
-pub scoped-tally-spec : {M : Type 1} → statement M
+pub scoped_tally_spec : {M : Type 1} → statement M
 unfolding scoped_tally
-scoped-tally-spec =
+scoped_tally_spec =
     tie.close
     (tie.spec
     (λ c κs. search rules)

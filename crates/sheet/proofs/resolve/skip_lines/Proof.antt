@@ -35,8 +35,8 @@ longer c =
     let l = take c.before.before.line-end.result a.s.now in
     omega (arith, i, length-take-le _ a.s.now i.1, ap length c.without-return.ensures, return_length l)
 
-pub skip-lines-spec : {M : Type 1} → statement M
-skip-lines-spec =
+pub skip_lines_spec : {M : Type 1} → statement M
+skip_lines_spec =
     tie.close
     (tie.spec
     invariant-loop

@@ -21,8 +21,8 @@ invariant-loop s own kind name scope t₀ at₀ t at =
 abbrev decreases-loop : tie.decreases-loop
 decreases-loop s own kind name scope t₀ at₀ t at = length s - at
 
-pub tally-all-spec : {M : Type 1} → statement M
-tally-all-spec =
+pub tally_all_spec : {M : Type 1} → statement M
+tally_all_spec =
     tie.close
     (tie.spec
     invariant-loop

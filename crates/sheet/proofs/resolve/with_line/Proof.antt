@@ -3,8 +3,8 @@ use Rattle.sheet.proofs.ResolveLaws.{lookups}
 use Rattle.sheet.proofs.resolve.with_line.Statement.{statement}
 use Rattle.sheet.proofs.resolve.with_line.Tie as tie
 
-pub with-line-spec : {M : Type 1} → statement M
-with-line-spec =
+pub with_line_spec : {M : Type 1} → statement M
+with_line_spec =
     tie.close
     (tie.spec
     (λ c κs. search rules)

@@ -4,9 +4,9 @@ use Rattle.text.proofs.Tests.{steps}
 use Rattle.sheet.proofs.resolve.with_row.Statement.{statement}
 use Rattle.sheet.proofs.resolve.with_row.Tie as tie
 
-pub with-row-spec : {M : Type 1} → statement M
+pub with_row_spec : {M : Type 1} → statement M
 unfolding tallied
-with-row-spec =
+with_row_spec =
     tie.close
     (tie.spec
     (λ c κs. search rules)

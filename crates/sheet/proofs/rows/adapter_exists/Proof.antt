@@ -4,9 +4,9 @@ use Rattle.sheet.specs.View.{view_of}
 use Rattle.sheet.proofs.rows.adapter_exists.Statement.{statement}
 use Rattle.sheet.proofs.rows.adapter_exists.Tie as tie
 
-pub adapter-exists-spec : {M : Type 1} → statement M
+pub adapter_exists_spec : {M : Type 1} → statement M
 unfolding view_of
-adapter-exists-spec =
+adapter_exists_spec =
     tie.close
     (tie.spec
     (λ c κs. search rules)

@@ -23,9 +23,9 @@ module _ (party : ℕ) (said : Said) (l : Line) {a : ℕ} where
   unfolding added
   owned was h k = rw (was, h, k)
 
-pub added-spec : {M : Type 1} → statement M
+pub added_spec : {M : Type 1} → statement M
 unfolding added
-added-spec =
+added_spec =
     tie.close
     (tie.spec
     (λ c. search rules)

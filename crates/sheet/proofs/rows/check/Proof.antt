@@ -38,8 +38,8 @@ module _ (party : ℕ) (s : List ℕ) {none : Said} (nothing : none ≡ none_sai
       unfolding survey_of survey_lines
       no k f = rw (le-ltb longest_sheet (length s) h, part-read 0x0A s 0 e (omega arith) q, ← w, ← a, k, ← nothing) f
 
-pub check-spec : {M : Type 1} → statement M
-check-spec =
+pub check_spec : {M : Type 1} → statement M
+check_spec =
     tie.close
     (tie.spec
     (λ c κs. search rules)

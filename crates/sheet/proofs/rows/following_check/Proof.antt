@@ -70,8 +70,8 @@ invariant-loop s from party said₀ at₀ n₀ said at n = survey_from party n s
 abbrev decreases-loop : tie.decreases-loop
 decreases-loop s from party said₀ at₀ n₀ said at n = length s - at
 
-pub following-check-spec : {M : Type 1} → statement M
-following-check-spec =
+pub following_check_spec : {M : Type 1} → statement M
+following_check_spec =
     tie.close
     (tie.spec
     invariant-loop

@@ -3,9 +3,9 @@ use Rattle.sheet.specs.Survey.{is_named}
 use Rattle.sheet.proofs.rows.is_named.Statement.{statement}
 use Rattle.sheet.proofs.rows.is_named.Tie as tie
 
-pub is-named-spec : {M : Type 1} → statement M
+pub is_named_spec : {M : Type 1} → statement M
 unfolding is_named
-is-named-spec =
+is_named_spec =
     tie.close
     (tie.spec
     (λ c. search rules)

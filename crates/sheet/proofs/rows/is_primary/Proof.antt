@@ -3,9 +3,9 @@ use Rattle.sheet.specs.Sheet.{is_primary}
 use Rattle.sheet.proofs.rows.is_primary.Statement.{statement}
 use Rattle.sheet.proofs.rows.is_primary.Tie as tie
 
-pub is-primary-spec : {M : Type 1} → statement M
+pub is_primary_spec : {M : Type 1} → statement M
 unfolding is_primary
-is-primary-spec =
+is_primary_spec =
     tie.close
     (tie.spec
     (λ c. search rules)

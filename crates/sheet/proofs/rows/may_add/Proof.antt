@@ -14,9 +14,9 @@ no_second : (said : Said) (l : Line) {a p : ℕ} {r : Bool} → l ≡ Party a p 
 unfolding may_add
 no_second said l was h = rw (was, h)
 
-pub may-add-spec : {M : Type 1} → statement M
+pub may_add_spec : {M : Type 1} → statement M
 unfolding may_add
-may-add-spec =
+may_add_spec =
     tie.close
     (tie.spec
     (λ c. search rules)

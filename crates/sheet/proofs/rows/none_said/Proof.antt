@@ -14,8 +14,8 @@ nothing : (party : ℕ) {x y z : Adapters} → x ≡ packed (λ a. false) → y 
 unfolding none_said
 nothing party h k l = rw (h, k, l)
 
-pub none-said-spec : {M : Type 1} → statement M
-none-said-spec =
+pub none_said_spec : {M : Type 1} → statement M
+none_said_spec =
     tie.close
     (tie.spec
     (λ c κs. search rules)

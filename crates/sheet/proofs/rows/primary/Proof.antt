@@ -3,7 +3,7 @@ use mathlib.Core.List.{List, [], ◌∷◌}
 use Prim.Native.Nat.{ℕ}
 use native.Mathlib.Omega.{arith}
 use borrow.Author.Rules.{rules}
-use Rattle.bytes.specs.Bytes.{index_of}
+use Rattle.text.specs.Find.{index_of}
 use Rattle.text.specs.Part.{part_of}
 use Rattle.text.specs.Find.{first_at}
 use Rattle.text.specs.Split.{split}
@@ -25,8 +25,8 @@ says : (s : List ℕ) {end : ℕ} {p : List ℕ} {l v : Line} {r : ℕ} →
     end ≡ line_end s 0 → p ≡ part_of s 0 end → l ≡ line_of p → l ≡ v → r ≡ primary_by v → r ≡ primary_line (lines s)
 says s e q w k h = rw (first s, ← e, ← q, ← w, k) h
 
-pub primary-spec : {M : Type 1} → statement M
-primary-spec =
+pub primary_spec : {M : Type 1} → statement M
+primary_spec =
     tie.close
     (tie.spec
     (λ c κs. search rules)

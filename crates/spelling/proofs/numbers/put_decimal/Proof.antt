@@ -28,8 +28,8 @@ returns c =
     let e = b.before.digit.ensures in
     search (rules, put_1 (⊎_elim (λ w. one-digit s e w.taken) (λ w. tenth_digit s e w.1.taken) b.if1.branch))
 
-pub put-decimal-spec : {M : Type 1} → statement M
-put-decimal-spec =
+pub put_decimal_spec : {M : Type 1} → statement M
+put_decimal_spec =
     tie.close
     (tie.spec
     invariant-loop

@@ -4,8 +4,8 @@ use Rattle.spelling.proofs.NumberLaws.{duration-made, long-made, short-made}
 use Rattle.spelling.proofs.numbers.put_duration.Statement.{statement}
 use Rattle.spelling.proofs.numbers.put_duration.Tie as tie
 
-pub put-duration-spec : {M : Type 1} → statement M
-put-duration-spec =
+pub put_duration_spec : {M : Type 1} → statement M
+put_duration_spec =
     tie.close
     (tie.spec
     (λ c. search rules)

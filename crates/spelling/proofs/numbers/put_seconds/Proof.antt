@@ -5,8 +5,8 @@ use Rattle.spelling.proofs.NumberLaws.{seconds_made}
 use Rattle.spelling.proofs.numbers.put_seconds.Statement.{statement}
 use Rattle.spelling.proofs.numbers.put_seconds.Tie as tie
 
-pub put-seconds-spec : {M : Type 1} → statement M
-put-seconds-spec =
+pub put_seconds_spec : {M : Type 1} → statement M
+put_seconds_spec =
     tie.close
     (tie.spec
     (λ c κs. search (rules, fits-1 (seconds_made c.before.before.args.ms refl refl refl)))

@@ -4,8 +4,8 @@ use Rattle.spelling.proofs.NumberLaws.{time-made}
 use Rattle.spelling.proofs.numbers.put_time.Statement.{statement}
 use Rattle.spelling.proofs.numbers.put_time.Tie as tie
 
-pub put-time-spec : {M : Type 1} → statement M
-put-time-spec =
+pub put_time_spec : {M : Type 1} → statement M
+put_time_spec =
     tie.close
     (tie.spec
     (λ c κs. search rules)

@@ -4,8 +4,8 @@ use Rattle.spelling.proofs.PartLaws.{adapter-same, adapter-other}
 use Rattle.spelling.proofs.parts.put_adapter.Statement.{statement}
 use Rattle.spelling.proofs.parts.put_adapter.Tie as tie
 
-pub put-adapter-spec : {M : Type 1} → statement M
-put-adapter-spec =
+pub put_adapter_spec : {M : Type 1} → statement M
+put_adapter_spec =
     tie.close
     (tie.spec
     (λ c. put_1 (adapter-same _ _ c.if1.true) _ _ _ _ put-none)

@@ -4,8 +4,8 @@ use Rattle.spelling.proofs.PartLaws.{argument-made}
 use Rattle.spelling.proofs.parts.put_argument.Statement.{statement}
 use Rattle.spelling.proofs.parts.put_argument.Tie as tie
 
-pub put-argument-spec : {M : Type 1} → statement M
-put-argument-spec =
+pub put_argument_spec : {M : Type 1} → statement M
+put_argument_spec =
     tie.close
     (tie.spec
     (λ c κs. let a = c.before.before.before.args in fits-1 (argument-made a.before.now a.n) _ _ c.before.before.before.requires)

@@ -9,9 +9,9 @@ use Rattle.spelling.proofs.PartLaws.{bound-held}
 use Rattle.spelling.proofs.parts.put_bound.Statement.{statement}
 use Rattle.spelling.proofs.parts.put_bound.Tie as tie
 
-pub put-bound-spec : {M : Type 1} → statement M
+pub put_bound_spec : {M : Type 1} → statement M
 unfolding bound_pieces
-put-bound-spec =
+put_bound_spec =
     tie.close
     (tie.spec
     (λ c. search rules)

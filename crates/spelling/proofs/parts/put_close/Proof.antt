@@ -4,8 +4,8 @@ use Rattle.spelling.proofs.PartLaws.{close-made}
 use Rattle.spelling.proofs.parts.put_close.Statement.{statement}
 use Rattle.spelling.proofs.parts.put_close.Tie as tie
 
-pub put-close-spec : {M : Type 1} → statement M
-put-close-spec =
+pub put_close_spec : {M : Type 1} → statement M
+put_close_spec =
     tie.close
     (tie.spec
     (λ c κs. let a = c.before.before.args in fits-1 (close-made a.primary a.adapter) _ _ c.before.before.requires)

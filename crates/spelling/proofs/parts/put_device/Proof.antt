@@ -4,8 +4,8 @@ use Rattle.spelling.proofs.PartLaws.{device-made}
 use Rattle.spelling.proofs.parts.put_device.Statement.{statement}
 use Rattle.spelling.proofs.parts.put_device.Tie as tie
 
-pub put-device-spec : {M : Type 1} → statement M
-put-device-spec =
+pub put_device_spec : {M : Type 1} → statement M
+put_device_spec =
     tie.close
     (tie.spec
     (λ c. search rules)

@@ -4,8 +4,8 @@ use Rattle.spelling.proofs.PartLaws.{input-made}
 use Rattle.spelling.proofs.parts.put_input.Statement.{statement}
 use Rattle.spelling.proofs.parts.put_input.Tie as tie
 
-pub put-input-spec : {M : Type 1} → statement M
-put-input-spec =
+pub put_input_spec : {M : Type 1} → statement M
+put_input_spec =
     tie.close
     (tie.spec
     (λ c. search rules)

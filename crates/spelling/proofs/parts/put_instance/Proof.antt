@@ -4,8 +4,8 @@ use Rattle.spelling.proofs.PartLaws.{instance-made}
 use Rattle.spelling.proofs.parts.put_instance.Statement.{statement}
 use Rattle.spelling.proofs.parts.put_instance.Tie as tie
 
-pub put-instance-spec : {M : Type 1} → statement M
-put-instance-spec =
+pub put_instance_spec : {M : Type 1} → statement M
+put_instance_spec =
     tie.close
     (tie.spec
     (λ c. search rules)

@@ -4,8 +4,8 @@ use Rattle.spelling.proofs.PartLaws.{instances-made}
 use Rattle.spelling.proofs.parts.put_instances.Statement.{statement}
 use Rattle.spelling.proofs.parts.put_instances.Tie as tie
 
-pub put-instances-spec : {M : Type 1} → statement M
-put-instances-spec =
+pub put_instances_spec : {M : Type 1} → statement M
+put_instances_spec =
     tie.close
     (tie.spec
     (λ c. search rules)

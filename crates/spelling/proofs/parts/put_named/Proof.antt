@@ -4,8 +4,8 @@ use Rattle.spelling.proofs.PartLaws.{named-made}
 use Rattle.spelling.proofs.parts.put_named.Statement.{statement}
 use Rattle.spelling.proofs.parts.put_named.Tie as tie
 
-pub put-named-spec : {M : Type 1} → statement M
-put-named-spec =
+pub put_named_spec : {M : Type 1} → statement M
+put_named_spec =
     tie.close
     (tie.spec
     (λ c κs. let a = c.before.before.before.before.before.args in fits-1 (named-made a.before.now a.text.now a.name a.behind.now) _ _ c.before.before.before.before.before.requires)

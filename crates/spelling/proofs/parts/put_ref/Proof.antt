@@ -4,8 +4,8 @@ use Rattle.spelling.proofs.PartLaws.{ref_made}
 use Rattle.spelling.proofs.parts.put_ref.Statement.{statement}
 use Rattle.spelling.proofs.parts.put_ref.Tie as tie
 
-pub put-ref-spec : {M : Type 1} → statement M
-put-ref-spec =
+pub put_ref_spec : {M : Type 1} → statement M
+put_ref_spec =
     tie.close
     (tie.spec
     (λ c. search rules)

@@ -4,8 +4,8 @@ use Rattle.spelling.proofs.PartLaws.{reference-made}
 use Rattle.spelling.proofs.parts.put_reference.Statement.{statement}
 use Rattle.spelling.proofs.parts.put_reference.Tie as tie
 
-pub put-reference-spec : {M : Type 1} → statement M
-put-reference-spec =
+pub put_reference_spec : {M : Type 1} → statement M
+put_reference_spec =
     tie.close
     (tie.spec
     (λ c κs. let a = c.before.before.before.args in fits-1 (reference-made a.before.now a.primary a.r) _ _ c.before.before.before.requires)

@@ -6,9 +6,9 @@ use Rattle.spelling.proofs.FormLaws.{of_form}
 use Rattle.spelling.proofs.parts.put_selector.Statement.{statement}
 use Rattle.spelling.proofs.parts.put_selector.Tie as tie
 
-pub put-selector-spec : {M : Type 1} → statement M
+pub put_selector_spec : {M : Type 1} → statement M
 unfolding selector_pieces
-put-selector-spec =
+put_selector_spec =
     tie.close
     (tie.spec
     (λ c. search rules)

@@ -5,8 +5,8 @@ use Rattle.spelling.proofs.PartLaws.{solar-held}
 use Rattle.spelling.proofs.parts.put_solar.Statement.{statement}
 use Rattle.spelling.proofs.parts.put_solar.Tie as tie
 
-pub put-solar-spec : {M : Type 1} → statement M
-put-solar-spec =
+pub put_solar_spec : {M : Type 1} → statement M
+put_solar_spec =
     tie.close
     (tie.spec
     (λ c κs. let a = c.before.before.args in fits-1 (solar-held a.event a.offset (to_z-of_z c.before.before.ranges.offset)) _ _ c.before.before.requires)

@@ -9,9 +9,9 @@ use Rattle.spelling.proofs.FormLaws.{of_form}
 use Rattle.spelling.proofs.parts.put_solar_event.Statement.{statement}
 use Rattle.spelling.proofs.parts.put_solar_event.Tie as tie
 
-pub put-solar-event-spec : {M : Type 1} → statement M
+pub put_solar_event_spec : {M : Type 1} → statement M
 unfolding further spelled
-put-solar-event-spec =
+put_solar_event_spec =
     tie.close
     (tie.spec
     (λ c. search rules)

@@ -7,9 +7,9 @@ use Rattle.spelling.proofs.FormLaws.{of_form}
 use Rattle.spelling.proofs.parts.put_target.Statement.{statement}
 use Rattle.spelling.proofs.parts.put_target.Tie as tie
 
-pub put-target-spec : {M : Type 1} → statement M
+pub put_target_spec : {M : Type 1} → statement M
 unfolding further spelled target_pieces
-put-target-spec =
+put_target_spec =
     tie.close
     (tie.spec
     (λ c. search rules)

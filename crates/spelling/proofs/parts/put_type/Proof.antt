@@ -7,9 +7,9 @@ use Rattle.spelling.proofs.FormLaws.{of_form}
 use Rattle.spelling.proofs.parts.put_type.Statement.{statement}
 use Rattle.spelling.proofs.parts.put_type.Tie as tie
 
-pub put-type-spec : {M : Type 1} → statement M
+pub put_type_spec : {M : Type 1} → statement M
 unfolding further spelled spelled_sign type_pieces
-put-type-spec =
+put_type_spec =
     tie.close
     (tie.spec
     (λ c. search rules)

@@ -6,9 +6,9 @@ use Rattle.spelling.proofs.FormLaws.{string-made}
 use Rattle.spelling.proofs.put.put_string.Statement.{statement}
 use Rattle.spelling.proofs.put.put_string.Tie as tie
 
-pub put-string-spec : {M : Type 1} → statement M
+pub put_string_spec : {M : Type 1} → statement M
 unfolding name_in
-put-string-spec =
+put_string_spec =
     tie.close
     (tie.spec
     (λ c. search rules)

@@ -37,5 +37,5 @@ cast-result-2 c =
 returns-2 : tie.Need-returns-2
 returns-2 c = distance-not_below _ c.if1.false ∙ ap distance_of (to_z-of_z c.before.ranges.z)
 
-pub distance-spec : {M : Type 1} → statement M
-distance-spec = tie.close (tie.spec sub-result cast-result add-result returns cast-result-2 returns-2)
+pub distance_spec : {M : Type 1} → statement M
+distance_spec = tie.close (tie.spec sub-result cast-result add-result returns cast-result-2 returns-2)

@@ -5,8 +5,8 @@ use Rattle.spelling.proofs.SignedLaws.{is-minus, is-plus, added-minus, added-plu
 use Rattle.spelling.proofs.signed.put_added.Statement.{statement}
 use Rattle.spelling.proofs.signed.put_added.Tie as tie
 
-pub put-added-spec : {M : Type 1} → statement M
-put-added-spec =
+pub put_added_spec : {M : Type 1} → statement M
+put_added_spec =
     tie.close
     (tie.spec
     (λ c κs. search rules)

@@ -6,8 +6,8 @@ use Rattle.spelling.proofs.SignedLaws.{no-delta, delta-made}
 use Rattle.spelling.proofs.signed.put_delta.Statement.{statement}
 use Rattle.spelling.proofs.signed.put_delta.Tie as tie
 
-pub put-delta-spec : {M : Type 1} → statement M
-put-delta-spec =
+pub put_delta_spec : {M : Type 1} → statement M
+put_delta_spec =
     tie.close
     (tie.spec
     (λ c. search rules)

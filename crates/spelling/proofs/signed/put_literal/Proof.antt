@@ -5,8 +5,8 @@ use Rattle.spelling.proofs.SignedLaws.{is-minus, is-plus, literal_minus, literal
 use Rattle.spelling.proofs.signed.put_literal.Statement.{statement}
 use Rattle.spelling.proofs.signed.put_literal.Tie as tie
 
-pub put-literal-spec : {M : Type 1} → statement M
-put-literal-spec =
+pub put_literal_spec : {M : Type 1} → statement M
+put_literal_spec =
     tie.close
     (tie.spec
     (λ c κs. search rules)

@@ -5,8 +5,8 @@ use Rattle.spelling.proofs.SignedLaws.{widened, distance-fits, is-minus, is-plus
 use Rattle.spelling.proofs.signed.put_offset.Statement.{statement}
 use Rattle.spelling.proofs.signed.put_offset.Tie as tie
 
-pub put-offset-spec : {M : Type 1} → statement M
-put-offset-spec =
+pub put_offset_spec : {M : Type 1} → statement M
+put_offset_spec =
     tie.close
     (tie.spec
     (λ c. rw (to_z-of_z c.before.ranges.offset) (sfits_widen tt c.before.ranges.offset))

@@ -4,8 +4,8 @@ use Rattle.spelling.proofs.WeekLaws.{day-made}
 use Rattle.spelling.proofs.week.put_day.Statement.{statement}
 use Rattle.spelling.proofs.week.put_day.Tie as tie
 
-pub put-day-spec : {M : Type 1} → statement M
-put-day-spec =
+pub put_day_spec : {M : Type 1} → statement M
+put_day_spec =
     tie.close
     (tie.spec
     (λ c. search rules)

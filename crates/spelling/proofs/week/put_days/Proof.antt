@@ -11,8 +11,8 @@ invariant-loop out₀ at end₀ some₀ left₀ d₀ out end some left d = Going
 abbrev decreases-loop : tie.decreases-loop
 decreases-loop out₀ at end₀ some₀ left₀ d₀ out end some left d = 7 - d
 
-pub put-days-spec : {M : Type 1} → statement M
-put-days-spec =
+pub put_days_spec : {M : Type 1} → statement M
+put_days_spec =
     tie.close
     (tie.spec
     invariant-loop

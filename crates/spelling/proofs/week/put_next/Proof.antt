@@ -4,8 +4,8 @@ use Rattle.spelling.proofs.WeekLaws.{other-day, first-day}
 use Rattle.spelling.proofs.week.put_next.Statement.{statement}
 use Rattle.spelling.proofs.week.put_next.Tie as tie
 
-pub put-next-spec : {M : Type 1} → statement M
-put-next-spec =
+pub put_next_spec : {M : Type 1} → statement M
+put_next_spec =
     tie.close
     (tie.spec
     (λ c. search rules)

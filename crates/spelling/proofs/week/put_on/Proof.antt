@@ -4,8 +4,8 @@ use Rattle.spelling.proofs.WeekLaws.{no_on, on-made}
 use Rattle.spelling.proofs.week.put_on.Statement.{statement}
 use Rattle.spelling.proofs.week.put_on.Tie as tie
 
-pub put-on-spec : {M : Type 1} → statement M
-put-on-spec =
+pub put_on_spec : {M : Type 1} → statement M
+put_on_spec =
     tie.close
     (tie.spec
     (λ c. rw (no_on c.if1.true) put-none)

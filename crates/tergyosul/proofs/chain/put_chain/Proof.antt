@@ -26,8 +26,8 @@ written c =
     let done : length a.t2.pieces ≤ c.before.loop.i = omega arith in
     all-pieces a.t2 a.answer.now room c.before.before.before.before.before.put_four.ensures c.before.before.held.ensures done c.before.loop.invariant.2
 
-pub put-chain-spec : {M : Type 1} → statement M
-put-chain-spec =
+pub put_chain_spec : {M : Type 1} → statement M
+put_chain_spec =
     tie.close
     (tie.spec
     invariant-loop

@@ -14,8 +14,8 @@ with-room c =
     let long = c.before.before.before.before.before.if1.false in
     (room _ _ _ long (ap (λ (x : Chain). x.number) d), c.before.before.put-chain.ensures ∙ ap (λ (x : Chain). chain_flat x entry) d)
 
-pub tergyosul-next-chain-spec : {M : Type 1} → statement M
-tergyosul-next-chain-spec =
+pub tergyosul_next_chain_spec : {M : Type 1} → statement M
+tergyosul_next_chain_spec =
     tie.close
     (tie.spec
     (λ c. let short = c.if1.true in (no_room_lem _ _ _ _ short, unwritten _ _ short))

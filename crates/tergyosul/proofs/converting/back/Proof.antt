@@ -19,8 +19,8 @@ all c =
     let same : of counted.before.triggers-alone.result counted.condition_count_lem.result ≡ of (triggers_alone a.lists.now) (condition_count a.lists.now) = rw (l, n) in
     (called.back.ensures.0 ∙ ap (λ (o : Outcome). o.answer) same, called.back.ensures.1 ∙ ap (λ (o : Outcome). o.buffer) same)
 
-pub back-spec : {M : Type 1} → statement M
-back-spec =
+pub back_spec : {M : Type 1} → statement M
+back_spec =
     tie.close
     (tie.spec
     (λ c κs. search rules)

@@ -19,8 +19,8 @@ with-room c =
     let d = called.convert.ensures in
     (room _ _ _ called.before.if1.false (ap (λ (x : Answer). x.number) d), c.before.before.put-answer.ensures ∙ ap (flat a.answer.now) d)
 
-pub tergyosul-rows-spec : {M : Type 1} → statement M
-tergyosul-rows-spec =
+pub tergyosul_rows_spec : {M : Type 1} → statement M
+tergyosul_rows_spec =
     tie.close
     (tie.spec
     without-room

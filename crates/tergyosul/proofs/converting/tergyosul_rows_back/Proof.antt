@@ -15,8 +15,8 @@ with-room c =
     let d = called.back.ensures in
     (room _ _ _ long (ap (λ (w : Written). w.number) d.0), (room _ _ _ long d.1, c.before.before.Put-written.ensures ∙ ap (λ (w : Written). written_flat w a.answer.now) d.0))
 
-pub tergyosul-rows-back-spec : {M : Type 1} → statement M
-tergyosul-rows-back-spec =
+pub tergyosul_rows_back_spec : {M : Type 1} → statement M
+tergyosul_rows_back_spec =
     tie.close
     (tie.spec
     (λ c. let short = c.if1.true in (no_room_lem _ _ _ _ short, (no_room_lem _ _ _ _ short, unwritten _ _ short)))

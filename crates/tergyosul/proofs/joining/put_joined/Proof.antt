@@ -17,8 +17,8 @@ with-room c =
     let size : length a.t2.from ≡ 4 = search rules in
     written a.answer.now a.t2 c.before.before.before.before.before.before.before.before.before.before.if1.false size c.before.before.before.before.before.before.before.put-answer.ensures c.conditions-from.ensures
 
-pub put-joined-spec : {M : Type 1} → statement M
-put-joined-spec =
+pub put_joined_spec : {M : Type 1} → statement M
+put_joined_spec =
     tie.close
     (tie.spec
     without-room

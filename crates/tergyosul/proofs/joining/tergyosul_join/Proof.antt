@@ -23,8 +23,8 @@ with-room c =
     let long = c.before.before.before.before.before.before.before.before.before.before.before.if1.false in
     (room _ _ _ long (ap (λ (j : Joined). j.answer.number) d), (room _ _ _ long (search rules), (room _ _ _ long (search rules), c.before.before.put-joined.ensures ∙ ap (flat_joined a.answer.now) d)))
 
-pub tergyosul-join-spec : {M : Type 1} → statement M
-tergyosul-join-spec =
+pub tergyosul_join_spec : {M : Type 1} → statement M
+tergyosul_join_spec =
     tie.close
     (tie.spec
     without-room

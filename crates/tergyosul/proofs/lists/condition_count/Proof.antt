@@ -3,6 +3,6 @@ use Rattle.tergyosul.specs.Converting.{condition_count}
 use Rattle.tergyosul.proofs.lists.condition_count.Statement.{statement}
 use Rattle.tergyosul.proofs.lists.condition_count.Tie as tie
 
-pub condition-count-spec : {M : Type 1} → statement M
+pub condition_count_spec : {M : Type 1} → statement M
 unfolding condition_count
-condition-count-spec = tie.close (tie.spec (λ c κs. search rules) (λ c. search rules) (λ c. c.word_in.ensures))
+condition_count_spec = tie.close (tie.spec (λ c κs. search rules) (λ c. search rules) (λ c. c.word_in.ensures))

@@ -12,7 +12,7 @@ same-entry : {x y : Condition} (from : ℕ) → x ≡ y →
     ◌≡◌ {A = ConditionFrom} (record { from = from; condition = x }) (record { from = from; condition = y })
 same-entry from e = rw e
 
-pub condition-from-spec : {M : Type 1} → statement M
+pub condition_from_spec : {M : Type 1} → statement M
 unfolding condition_from
-condition-from-spec =
+condition_from_spec =
     tie.close (tie.spec (λ c κs. search rules) (λ c κs. search rules) (λ c. search (steps, same-entry)) (λ c. search steps))

@@ -5,9 +5,9 @@ use Rattle.tergyosul.specs.Writing.{condition_in}
 use Rattle.tergyosul.proofs.lists.condition_in.Statement.{statement}
 use Rattle.tergyosul.proofs.lists.condition_in.Tie as tie
 
-pub condition-in-spec : {M : Type 1} → statement M
+pub condition_in_spec : {M : Type 1} → statement M
 unfolding condition_in list_rows first_trigger first_condition row_count
-condition-in-spec =
+condition_in_spec =
     tie.close
     (tie.spec
     (λ c κs. search rules)

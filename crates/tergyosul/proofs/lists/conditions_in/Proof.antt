@@ -30,9 +30,9 @@ filled c =
     let l = c.before.before.loop in
     rw (all-filled (conditions_in w).rows l.rows l.i refl l.invariant.1 l.invariant.2 (search rules), c.word_in.ensures)
 
-pub conditions-in-spec : {M : Type 1} → statement M
+pub conditions_in_spec : {M : Type 1} → statement M
 unfolding list_rows
-conditions-in-spec =
+conditions_in_spec =
     tie.close
     (tie.spec
     invariant-loop

@@ -3,9 +3,9 @@ use Rattle.tergyosul.specs.Writing.{lists_in}
 use Rattle.tergyosul.proofs.lists.lists_in.Statement.{statement}
 use Rattle.tergyosul.proofs.lists.lists_in.Tie as tie
 
-pub lists-in-spec : {M : Type 1} → statement M
+pub lists_in_spec : {M : Type 1} → statement M
 unfolding lists_in
-lists-in-spec =
+lists_in_spec =
     tie.close
     (tie.spec
     (λ c κs. search rules)

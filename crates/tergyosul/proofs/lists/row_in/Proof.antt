@@ -31,9 +31,9 @@ filled c =
     let l = c.before.loop in
     all-filled (row_in a.words.now a.row) l.out l.i (row-length _ _) l.invariant.1 l.invariant.2 (search rules)
 
-pub row-in-spec : {M : Type 1} → statement M
+pub row_in_spec : {M : Type 1} → statement M
 unfolding row_words row_count first_condition first_trigger list_rows
-row-in-spec =
+row_in_spec =
     tie.close
     (tie.spec
     invariant-loop

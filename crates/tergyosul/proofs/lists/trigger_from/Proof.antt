@@ -12,7 +12,7 @@ same-entry : {x y : Trigger} (from : ℕ) → x ≡ y →
     ◌≡◌ {A = TriggerFrom} (record { from = from; trigger = x }) (record { from = from; trigger = y })
 same-entry from e = rw e
 
-pub trigger-from-spec : {M : Type 1} → statement M
+pub trigger_from_spec : {M : Type 1} → statement M
 unfolding trigger_from
-trigger-from-spec =
+trigger_from_spec =
     tie.close (tie.spec (λ c κs. search rules) (λ c κs. search rules) (λ c. search (steps, same-entry)) (λ c. search steps))

@@ -5,9 +5,9 @@ use Rattle.tergyosul.specs.Writing.{trigger_in}
 use Rattle.tergyosul.proofs.lists.trigger_in.Statement.{statement}
 use Rattle.tergyosul.proofs.lists.trigger_in.Tie as tie
 
-pub trigger-in-spec : {M : Type 1} → statement M
+pub trigger_in_spec : {M : Type 1} → statement M
 unfolding trigger_in list_rows first_trigger first_condition row_count
-trigger-in-spec =
+trigger_in_spec =
     tie.close
     (tie.spec
     (λ c. search rules)

@@ -4,9 +4,9 @@ use Rattle.tergyosul.specs.Converting.{without_texts, triggers_alone}
 use Rattle.tergyosul.proofs.lists.triggers_alone.Statement.{statement}
 use Rattle.tergyosul.proofs.lists.triggers_alone.Tie as tie
 
-pub triggers-alone-spec : {M : Type 1} → statement M
+pub triggers_alone_spec : {M : Type 1} → statement M
 unfolding triggers_alone
-triggers-alone-spec =
+triggers_alone_spec =
     tie.close
     (tie.spec
     (λ c κs. search rules)

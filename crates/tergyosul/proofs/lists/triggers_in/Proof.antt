@@ -30,9 +30,9 @@ filled c =
     let l = c.before.before.loop in
     rw (all-filled (triggers_in w).rows l.rows l.i refl l.invariant.1 l.invariant.2 (search rules), c.word_in.ensures)
 
-pub triggers-in-spec : {M : Type 1} → statement M
+pub triggers_in_spec : {M : Type 1} → statement M
 unfolding list_rows
-triggers-in-spec =
+triggers_in_spec =
     tie.close
     (tie.spec
     invariant-loop

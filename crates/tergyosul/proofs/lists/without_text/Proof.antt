@@ -3,6 +3,6 @@ use Rattle.tergyosul.specs.Converting.{without_text}
 use Rattle.tergyosul.proofs.lists.without_text.Statement.{statement}
 use Rattle.tergyosul.proofs.lists.without_text.Tie as tie
 
-pub without-text-spec : {M : Type 1} → statement M
+pub without_text_spec : {M : Type 1} → statement M
 unfolding without_text
-without-text-spec = tie.close (tie.spec (λ c. refl))
+without_text_spec = tie.close (tie.spec (λ c. refl))

@@ -16,8 +16,8 @@ all c =
     let size : length t.rows ≡ 4 = search (rules, array_length, start.well_formed) in
     four-without t _ size first.without-text.ensures second.without-text2.ensures third.without-text3.ensures c.without-text4.ensures
 
-pub without-texts-spec : {M : Type 1} → statement M
-without-texts-spec =
+pub without_texts_spec : {M : Type 1} → statement M
+without_texts_spec =
     tie.close
     (tie.spec
     (λ c. search rules)

@@ -5,8 +5,8 @@ use borrow.Author.Rules.{rules}
 use Rattle.tergyosul.proofs.lists.word_in.Statement.{statement}
 use Rattle.tergyosul.proofs.lists.word_in.Tie as tie
 
-pub word-in-spec : {M : Type 1} → statement M
-word-in-spec =
+pub word_in_spec : {M : Type 1} → statement M
+word_in_spec =
     tie.close
     (tie.spec
     (λ c. search rules)

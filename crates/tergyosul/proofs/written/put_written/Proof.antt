@@ -3,8 +3,8 @@ use Rattle.tergyosul.proofs.WritingLaws.{unwritten, five-written}
 use Rattle.tergyosul.proofs.written.put_written.Statement.{statement}
 use Rattle.tergyosul.proofs.written.put_written.Tie as tie
 
-pub put-written-spec : {M : Type 1} → statement M
-put-written-spec =
+pub put_written_spec : {M : Type 1} → statement M
+put_written_spec =
     tie.close
     (tie.spec
     (λ c. search (rules, unwritten))

@@ -20,8 +20,8 @@ with-room c =
     let long = called.before.before.before.if1.false in
     (room _ _ _ long (ap (λ (w : Written). w.number) d), (room _ _ _ long b, c.before.before.Put-written.ensures ∙ ap (λ (w : Written). written_flat w a.answer.now) d))
 
-pub tergyosul-write-spec : {M : Type 1} → statement M
-tergyosul-write-spec =
+pub tergyosul_write_spec : {M : Type 1} → statement M
+tergyosul_write_spec =
     tie.close
     (tie.spec
     (λ c. let short = c.if1.true in (no_room_lem _ _ _ _ short, (no_room_lem _ _ _ _ short, unwritten _ _ short)))

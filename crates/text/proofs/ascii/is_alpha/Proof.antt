@@ -3,8 +3,8 @@ use Rattle.text.proofs.AsciiLaws.{small_alpha, capital_alpha, low_alpha}
 use Rattle.text.proofs.ascii.is_alpha.Statement.{statement}
 use Rattle.text.proofs.ascii.is_alpha.Tie as tie
 
-pub is-alpha-spec : {M : Type 1} → statement M
-is-alpha-spec =
+pub is_alpha_spec : {M : Type 1} → statement M
+is_alpha_spec =
     tie.close
     (tie.spec
     (λ c. search (rules, small_alpha))

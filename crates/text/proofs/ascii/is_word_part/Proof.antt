@@ -3,8 +3,8 @@ use Rattle.text.proofs.AsciiLaws.{small-part, capital_part, line-part, low_part}
 use Rattle.text.proofs.ascii.is_word_part.Statement.{statement}
 use Rattle.text.proofs.ascii.is_word_part.Tie as tie
 
-pub is-word-part-spec : {M : Type 1} → statement M
-is-word-part-spec =
+pub is_word_part_spec : {M : Type 1} → statement M
+is_word_part_spec =
     tie.close
     (tie.spec
     (λ c. search (rules, small-part))

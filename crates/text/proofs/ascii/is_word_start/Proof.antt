@@ -4,9 +4,9 @@ use Rattle.text.specs.Ascii.{is_word_start}
 use Rattle.text.proofs.ascii.is_word_start.Statement.{statement}
 use Rattle.text.proofs.ascii.is_word_start.Tie as tie
 
-pub is-word-start-spec : {M : Type 1} → statement M
+pub is_word_start_spec : {M : Type 1} → statement M
 unfolding is_word_start
-is-word-start-spec =
+is_word_start_spec =
     tie.close
     (tie.spec
     (λ c κs. search rules)

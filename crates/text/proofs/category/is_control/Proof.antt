@@ -5,6 +5,6 @@ use Rattle.text.proofs.CategoryLaws.{last-range}
 use Rattle.text.proofs.category.is_control.Statement.{statement}
 use Rattle.text.proofs.category.is_control.Tie as tie
 
-pub is-control-spec : {M : Type 1} → statement M
+pub is_control_spec : {M : Type 1} → statement M
 unfolding is_control controls among
-is-control-spec = tie.close (tie.spec (λ c. search ranges) (λ c. search ranges) (λ c. search (ranges, last-range)))
+is_control_spec = tie.close (tie.spec (λ c. search ranges) (λ c. search ranges) (λ c. search (ranges, last-range)))

@@ -3,8 +3,8 @@ use Rattle.text.proofs.SameLaws.{four_same}
 use Rattle.text.proofs.part.four_same.Statement.{statement}
 use Rattle.text.proofs.part.four_same.Tie as tie
 
-pub four-same-spec : {M : Type 1} → statement M
-four-same-spec =
+pub four_same_spec : {M : Type 1} → statement M
+four_same_spec =
     tie.close
     (tie.spec
     (λ c. search rules)

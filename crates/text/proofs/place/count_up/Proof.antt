@@ -6,6 +6,6 @@ use native.Mathlib.Omega.{arith}
 use Rattle.text.proofs.place.count_up.Statement.{statement}
 use Rattle.text.proofs.place.count_up.Tie as tie
 
-pub count-up-spec : {M : Type 1} → statement M
+pub count_up_spec : {M : Type 1} → statement M
 unfolding counted
-count-up-spec = tie.close (tie.spec (λ c. search rules) (λ c. rw (lt-ltb (c.before.args.n + 1) 4294967295 (omega arith))) (λ c. rw (le-ltb (c.before.args.n + 1) 4294967295 (omega arith))))
+count_up_spec = tie.close (tie.spec (λ c. search rules) (λ c. rw (lt-ltb (c.before.args.n + 1) 4294967295 (omega arith))) (λ c. rw (le-ltb (c.before.args.n + 1) 4294967295 (omega arith))))

@@ -13,8 +13,8 @@ opposite : (b : ℕ) → not (leb 0x80 b) ≡ is_ascii b
 unfolding is_ascii
 opposite b = not-leb 0x80 b
 
-pub eight-ascii-spec : {M : Type 1} → statement M
-eight-ascii-spec =
+pub eight_ascii_spec : {M : Type 1} → statement M
+eight_ascii_spec =
     tie.close
     (tie.spec
     (λ c. block-past _ _ _ (search rules))

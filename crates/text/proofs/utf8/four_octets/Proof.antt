@@ -4,9 +4,9 @@ use Rattle.text.specs.Utf8.{four}
 use Rattle.text.proofs.utf8.four_octets.Statement.{statement}
 use Rattle.text.proofs.utf8.four_octets.Tie as tie
 
-pub four-octets-spec : {M : Type 1} → statement M
+pub four_octets_spec : {M : Type 1} → statement M
 unfolding four
-four-octets-spec =
+four_octets_spec =
     tie.close
     (tie.spec
     (λ c. search steps depth 12)

@@ -4,9 +4,9 @@ use Rattle.text.specs.Utf8.{is_second}
 use Rattle.text.proofs.utf8.is_second.Statement.{statement}
 use Rattle.text.proofs.utf8.is_second.Tie as tie
 
-pub is-second-spec : {M : Type 1} → statement M
+pub is_second_spec : {M : Type 1} → statement M
 unfolding is_second
-is-second-spec =
+is_second_spec =
     tie.close
     (tie.spec
     (λ c κs. search rules)

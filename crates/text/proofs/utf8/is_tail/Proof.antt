@@ -4,9 +4,9 @@ use Rattle.text.specs.Utf8.{is_tail}
 use Rattle.text.proofs.utf8.is_tail.Statement.{statement}
 use Rattle.text.proofs.utf8.is_tail.Tie as tie
 
-pub is-tail-spec : {M : Type 1} → statement M
+pub is_tail_spec : {M : Type 1} → statement M
 unfolding is_tail
-is-tail-spec =
+is_tail_spec =
     tie.close
     (tie.spec
     (λ c κs. search rules)

@@ -3,8 +3,8 @@ use lib.ListN.{get_or-eq_default}
 use Rattle.text.proofs.utf8.octet.Statement.{statement}
 use Rattle.text.proofs.utf8.octet.Tie as tie
 
-pub octet-spec : {M : Type 1} → statement M
-octet-spec =
+pub octet_spec : {M : Type 1} → statement M
+octet_spec =
     tie.close
     (tie.spec
     (λ c. search rules)

@@ -4,8 +4,8 @@ use Rattle.text.proofs.Utf8Laws.{ones}
 use Rattle.text.proofs.utf8.sequence_length.Statement.{statement}
 use Rattle.text.proofs.utf8.sequence_length.Tie as tie
 
-pub sequence-length-spec : {M : Type 1} → statement M
-sequence-length-spec =
+pub sequence_length_spec : {M : Type 1} → statement M
+sequence_length_spec =
     tie.close
     (tie.spec
     (λ c. search rules)

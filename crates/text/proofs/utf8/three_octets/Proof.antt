@@ -4,9 +4,9 @@ use Rattle.text.specs.Utf8.{three}
 use Rattle.text.proofs.utf8.three_octets.Statement.{statement}
 use Rattle.text.proofs.utf8.three_octets.Tie as tie
 
-pub three-octets-spec : {M : Type 1} → statement M
+pub three_octets_spec : {M : Type 1} → statement M
 unfolding three
-three-octets-spec =
+three_octets_spec =
     tie.close
     (tie.spec
     (λ c κs. search rules)

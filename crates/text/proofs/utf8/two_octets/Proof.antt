@@ -4,9 +4,9 @@ use Rattle.text.specs.Utf8.{two}
 use Rattle.text.proofs.utf8.two_octets.Statement.{statement}
 use Rattle.text.proofs.utf8.two_octets.Tie as tie
 
-pub two-octets-spec : {M : Type 1} → statement M
+pub two_octets_spec : {M : Type 1} → statement M
 unfolding two
-two-octets-spec =
+two_octets_spec =
     tie.close
     (tie.spec
     (λ c. search steps depth 12)

@@ -3,9 +3,9 @@ use Rattle.text.proofs.white.is_high_white.Statement.{statement}
 use Rattle.text.specs.White.{white_space, among}
 use Rattle.text.proofs.white.is_high_white.Tie as tie
 
-pub is-high-white-spec : {M : Type 1} → statement M
+pub is_high_white_spec : {M : Type 1} → statement M
 unfolding white_space among
-is-high-white-spec =
+is_high_white_spec =
     tie.close
     (tie.spec
     (λ c. search ranges depth 20)

@@ -5,9 +5,9 @@ use Rattle.text.proofs.WhiteLaws.{ranges, none_above}
 use Rattle.text.proofs.white.is_white.Statement.{statement}
 use Rattle.text.proofs.white.is_white.Tie as tie
 
-pub is-white-spec : {M : Type 1} → statement M
+pub is_white_spec : {M : Type 1} → statement M
 unfolding is_white white_space among
-is-white-spec =
+is_white_spec =
     tie.close
     (tie.spec
     (λ c. none_above c.before.args.code white_space (search rules))

@@ -5,9 +5,9 @@ use Rattle.text.proofs.WhiteLaws.{ranges, none_above}
 use Rattle.text.proofs.white.is_wide_white.Statement.{statement}
 use Rattle.text.proofs.white.is_wide_white.Tie as tie
 
-pub is-wide-white-spec : {M : Type 1} → statement M
+pub is_wide_white_spec : {M : Type 1} → statement M
 unfolding white_space among
-is-wide-white-spec =
+is_wide_white_spec =
     tie.close
     (tie.spec
     (λ c. search ranges depth 20)

@@ -4,9 +4,9 @@ use Rattle.tokens.specs.Cursor.{bytes_of, tokens}
 use Rattle.tokens.proofs.cursor.bytes.Statement.{statement}
 use Rattle.tokens.proofs.cursor.bytes.Tie as tie
 
-pub bytes-spec : {M : Type 1} → statement M
+pub bytes_spec : {M : Type 1} → statement M
 unfolding tokens bytes_of
-bytes-spec =
+bytes_spec =
     tie.close
     (tie.spec
     (λ c κs. search rules)

@@ -24,8 +24,8 @@ with-fraction c =
     judged-by a.whole a.frac a.d a.unit
     (by_parts a.whole a.frac a.d a.unit (rw (← c.before.power-of-ten.ensures) c.with-parts.ensures))
 
-pub duration-ms-spec : {M : Type 1} → statement M
-duration-ms-spec =
+pub duration_ms_spec : {M : Type 1} → statement M
+duration_ms_spec =
     tie.close
     (tie.spec
     (λ c. omega (arith, word-product c.args.whole c.args.unit (omega arith) (omega arith)))

@@ -20,8 +20,8 @@ loop-again c = (omega arith, omega arith, omega (arith, ten-suc c.before.loop.i)
 returns : tie.Need-returns invariant-loop decreases-loop
 returns c = c.before.loop.invariant.2 ∙ ap (λ (j : ℕ). 10 ^ j) (omega arith)
 
-pub power-of-ten-spec : {M : Type 1} → statement M
-power-of-ten-spec =
+pub power_of_ten_spec : {M : Type 1} → statement M
+power_of_ten_spec =
     tie.close
     (tie.spec
     invariant-loop

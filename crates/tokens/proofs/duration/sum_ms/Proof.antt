@@ -5,8 +5,8 @@ use Rattle.tokens.proofs.AmountLaws.{too_long, not-long}
 use Rattle.tokens.proofs.duration.sum_ms.Statement.{statement}
 use Rattle.tokens.proofs.duration.sum_ms.Tie as tie
 
-pub sum-ms-spec : {M : Type 1} → statement M
-sum-ms-spec =
+pub sum_ms_spec : {M : Type 1} → statement M
+sum_ms_spec =
     tie.close
     (tie.spec
     (λ c. too_long _ (omega arith))

@@ -4,9 +4,9 @@ use Rattle.tokens.specs.Duration.{unit_of}
 use Rattle.tokens.proofs.duration.unit_ms.Statement.{statement}
 use Rattle.tokens.proofs.duration.unit_ms.Tie as tie
 
-pub unit-ms-spec : {M : Type 1} → statement M
+pub unit_ms_spec : {M : Type 1} → statement M
 unfolding unit_of
-unit-ms-spec =
+unit_ms_spec =
     tie.close
     (tie.spec
     (λ c. search rules)

@@ -4,8 +4,8 @@ use Rattle.tokens.proofs.AmountLaws.{parts_whole, parts-rest}
 use Rattle.tokens.proofs.duration.with_parts.Statement.{statement}
 use Rattle.tokens.proofs.duration.with_parts.Tie as tie
 
-pub with-parts-spec : {M : Type 1} → statement M
-with-parts-spec =
+pub with_parts_spec : {M : Type 1} → statement M
+with_parts_spec =
     tie.close
     (tie.spec
     (λ c. search rules)

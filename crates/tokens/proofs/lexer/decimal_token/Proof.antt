@@ -16,9 +16,9 @@ part-fits frac d {p} e h =
     let g : p ≤ 10000 = omega (arith, ten-le {i = 4 - d} {j = 4} (omega arith)) in
     mul-le-mul f g
 
-pub decimal-token-spec : {M : Type 1} → statement M
+pub decimal_token_spec : {M : Type 1} → statement M
 unfolding decimal
-decimal-token-spec =
+decimal_token_spec =
     tie.close
     (tie.spec
     (λ c. search steps)

@@ -20,9 +20,9 @@ amount-no : (p e : Place) (t : Amount) {a : Amount} {n : ℕ} → a ≡ t → a 
 unfolding amount_to
 amount-no p e t d h = rw (sym d ∙ h)
 
-pub duration-by-spec : {M : Type 1} → statement M
+pub duration_by_spec : {M : Type 1} → statement M
 unfolding duration_by
-duration-by-spec =
+duration_by_spec =
     tie.close
     (tie.spec
     (λ c. search steps)

@@ -20,8 +20,8 @@ by-unit : (s : List ℕ) (p : Place) (whole frac d : ℕ) (u : Place) {e : Place
 unfolding duration
 by-unit s p whole frac d u h k m g = rw (← h, ← k, ← m) g
 
-pub duration-token-spec : {M : Type 1} → statement M
-duration-token-spec =
+pub duration_token_spec : {M : Type 1} → statement M
+duration_token_spec =
     tie.close
     (tie.spec
     (λ c κs. search rules)

@@ -4,9 +4,9 @@ use Rattle.tokens.proofs.LexLaws.{arms}
 use Rattle.tokens.proofs.lexer.fraction_by.Statement.{statement}
 use Rattle.tokens.proofs.lexer.fraction_by.Tie as tie
 
-pub fraction-by-spec : {M : Type 1} → statement M
+pub fraction_by_spec : {M : Type 1} → statement M
 unfolding fraction_at
-fraction-by-spec =
+fraction_by_spec =
     tie.close
     (tie.spec
     (λ c κs. search rules)

@@ -4,9 +4,9 @@ use Rattle.tokens.proofs.LexLaws.{arms}
 use Rattle.tokens.proofs.lexer.fraction_token.Statement.{statement}
 use Rattle.tokens.proofs.lexer.fraction_token.Tie as tie
 
-pub fraction-token-spec : {M : Type 1} → statement M
+pub fraction_token_spec : {M : Type 1} → statement M
 unfolding fraction
-fraction-token-spec =
+fraction_token_spec =
     tie.close
     (tie.spec
     (λ c κs. search rules)

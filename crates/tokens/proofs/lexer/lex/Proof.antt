@@ -5,9 +5,9 @@ use Rattle.tokens.proofs.HoldsLaws.{with_holds}
 use Rattle.tokens.proofs.lexer.lex.Statement.{statement}
 use Rattle.tokens.proofs.lexer.lex.Tie as tie
 
-pub lex-spec : {M : Type 1} → statement M
+pub lex_spec : {M : Type 1} → statement M
 unfolding answer_by words_by lex_answer lex_words
-lex-spec =
+lex_spec =
     tie.close
     (tie.spec
     (λ c. with_holds _ _ (search asked))

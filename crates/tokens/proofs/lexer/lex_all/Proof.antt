@@ -125,8 +125,8 @@ loop-again c =
     c.before.before.put.ensures
     c.before.before.put.auto.0
 
-pub lex-all-spec : {M : Type 1} → statement M
-lex-all-spec =
+pub lex_all_spec : {M : Type 1} → statement M
+lex_all_spec =
     tie.close
     (tie.spec
     invariant-loop

@@ -4,9 +4,9 @@ use Rattle.tokens.proofs.LexLaws.{arms}
 use Rattle.tokens.proofs.lexer.number_by.Statement.{statement}
 use Rattle.tokens.proofs.lexer.number_by.Tie as tie
 
-pub number-by-spec : {M : Type 1} → statement M
+pub number_by_spec : {M : Type 1} → statement M
 unfolding number_at
-number-by-spec =
+number_by_spec =
     tie.close
     (tie.spec
     (λ c κs. search rules)

@@ -4,9 +4,9 @@ use Rattle.tokens.proofs.LexLaws.{arms}
 use Rattle.tokens.proofs.lexer.number_token.Statement.{statement}
 use Rattle.tokens.proofs.lexer.number_token.Tie as tie
 
-pub number-token-spec : {M : Type 1} → statement M
+pub number_token_spec : {M : Type 1} → statement M
 unfolding number
-number-token-spec =
+number_token_spec =
     tie.close
     (tie.spec
     (λ c κs. search rules)

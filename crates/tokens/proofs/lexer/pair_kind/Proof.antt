@@ -3,9 +3,9 @@ use Rattle.tokens.specs.Token.{pair_kind}
 use Rattle.tokens.proofs.lexer.pair_kind.Statement.{statement}
 use Rattle.tokens.proofs.lexer.pair_kind.Tie as tie
 
-pub pair-kind-spec : {M : Type 1} → statement M
+pub pair_kind_spec : {M : Type 1} → statement M
 unfolding pair_kind
-pair-kind-spec =
+pair_kind_spec =
     tie.close
     (tie.spec
     (λ c. search steps depth 12)

@@ -4,9 +4,9 @@ use Rattle.tokens.proofs.LexLaws.{arms}
 use Rattle.tokens.proofs.lexer.point_token.Statement.{statement}
 use Rattle.tokens.proofs.lexer.point_token.Tie as tie
 
-pub point-token-spec : {M : Type 1} → statement M
+pub point_token_spec : {M : Type 1} → statement M
 unfolding point
-point-token-spec =
+point_token_spec =
     tie.close
     (tie.spec
     (λ c κs. search rules)

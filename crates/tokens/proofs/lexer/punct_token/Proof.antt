@@ -4,9 +4,9 @@ use Rattle.tokens.proofs.LexLaws.{arms}
 use Rattle.tokens.proofs.lexer.punct_token.Statement.{statement}
 use Rattle.tokens.proofs.lexer.punct_token.Tie as tie
 
-pub punct-token-spec : {M : Type 1} → statement M
+pub punct_token_spec : {M : Type 1} → statement M
 unfolding punct
-punct-token-spec =
+punct_token_spec =
     tie.close
     (tie.spec
     (λ c κs. search rules)

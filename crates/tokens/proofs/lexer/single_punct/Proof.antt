@@ -4,9 +4,9 @@ use Rattle.tokens.proofs.LexLaws.{arms}
 use Rattle.tokens.proofs.lexer.single_punct.Statement.{statement}
 use Rattle.tokens.proofs.lexer.single_punct.Tie as tie
 
-pub single-punct-spec : {M : Type 1} → statement M
+pub single_punct_spec : {M : Type 1} → statement M
 unfolding single
-single-punct-spec =
+single_punct_spec =
     tie.close
     (tie.spec
     (λ c κs. search rules)

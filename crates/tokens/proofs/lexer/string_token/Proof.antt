@@ -4,9 +4,9 @@ use Rattle.tokens.proofs.LexLaws.{arms}
 use Rattle.tokens.proofs.lexer.string_token.Statement.{statement}
 use Rattle.tokens.proofs.lexer.string_token.Tie as tie
 
-pub string-token-spec : {M : Type 1} → statement M
+pub string_token_spec : {M : Type 1} → statement M
 unfolding string
-string-token-spec =
+string_token_spec =
     tie.close
     (tie.spec
     (λ c κs. search rules)

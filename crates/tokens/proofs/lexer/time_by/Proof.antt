@@ -4,9 +4,9 @@ use Rattle.tokens.specs.Token.{time_by}
 use Rattle.tokens.proofs.lexer.time_by.Statement.{statement}
 use Rattle.tokens.proofs.lexer.time_by.Tie as tie
 
-pub time-by-spec : {M : Type 1} → statement M
+pub time_by_spec : {M : Type 1} → statement M
 unfolding time_by
-time-by-spec =
+time_by_spec =
     tie.close
     (tie.spec
     (λ c. search steps depth 12)

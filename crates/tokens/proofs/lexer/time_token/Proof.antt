@@ -4,9 +4,9 @@ use Rattle.tokens.proofs.LexLaws.{arms}
 use Rattle.tokens.proofs.lexer.time_token.Statement.{statement}
 use Rattle.tokens.proofs.lexer.time_token.Tie as tie
 
-pub time-token-spec : {M : Type 1} → statement M
+pub time_token_spec : {M : Type 1} → statement M
 unfolding time
-time-token-spec =
+time_token_spec =
     tie.close
     (tie.spec
     (λ c κs. search rules)

@@ -4,9 +4,9 @@ use Rattle.tokens.specs.Token.{token_at}
 use Rattle.tokens.proofs.lexer.token_at.Statement.{statement}
 use Rattle.tokens.proofs.lexer.token_at.Tie as tie
 
-pub token-at-spec : {M : Type 1} → statement M
+pub token_at_spec : {M : Type 1} → statement M
 unfolding token_at
-token-at-spec =
+token_at_spec =
     tie.close
     (tie.spec
     (λ c κs. search rules)

@@ -10,9 +10,9 @@ use Rattle.tokens.proofs.lexer.word_token.Tie as tie
 to_end : (p q : Place) {e : Place} {x : Lexeme} → e ≡ q → x ≡ spanning 1 0 p e → x ≡ spanning 1 0 p q
 to_end p q h g = rw (← h) g
 
-pub word-token-spec : {M : Type 1} → statement M
+pub word_token_spec : {M : Type 1} → statement M
 unfolding word
-word-token-spec =
+word_token_spec =
     tie.close
     (tie.spec
     (λ c κs. search rules)

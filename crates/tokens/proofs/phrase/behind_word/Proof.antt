@@ -18,8 +18,8 @@ invariant-loop list at w len size end k₀ k =
 abbrev decreases-loop : tie.decreases-loop
 decreases-loop list at w len size end k₀ k = length w - k
 
-pub behind-word-spec : {M : Type 1} → statement M
-behind-word-spec =
+pub behind_word_spec : {M : Type 1} → statement M
+behind_word_spec =
     tie.close
     (tie.spec
     invariant-loop

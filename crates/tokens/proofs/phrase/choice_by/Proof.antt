@@ -93,8 +93,8 @@ invariant-loop list number i behind w first n₀ at₀ n at =
 abbrev decreases-loop : tie.decreases-loop
 decreases-loop list number i behind w first n₀ at₀ n at = length list - at
 
-pub choice-by-spec : {M : Type 1} → statement M
-choice-by-spec =
+pub choice_by_spec : {M : Type 1} → statement M
+choice_by_spec =
     tie.close
     (tie.spec
     invariant-loop

@@ -5,8 +5,8 @@ use Rattle.tokens.proofs.ListWordLaws.{none_first, some_first}
 use Rattle.tokens.proofs.phrase.first_byte.Statement.{statement}
 use Rattle.tokens.proofs.phrase.first_byte.Tie as tie
 
-pub first-byte-spec : {M : Type 1} → statement M
-first-byte-spec =
+pub first_byte_spec : {M : Type 1} → statement M
+first_byte_spec =
     tie.close
     (tie.spec
     (λ c. sym (none_first c.before.args.w.now (search rules)))

@@ -3,9 +3,9 @@ use Rattle.tokens.specs.Record.{line_at}
 use Rattle.tokens.proofs.record.line.Statement.{statement}
 use Rattle.tokens.proofs.record.line.Tie as tie
 
-pub line-spec : {M : Type 1} → statement M
+pub line_spec : {M : Type 1} → statement M
 unfolding line_at
-line-spec =
+line_spec =
     tie.close
     (tie.spec
     (λ c κs. search rules)

@@ -4,9 +4,9 @@ use Rattle.tokens.proofs.RecordLaws.{line-fits, place_fits}
 use Rattle.tokens.proofs.record.place_word.Statement.{statement}
 use Rattle.tokens.proofs.record.place_word.Tie as tie
 
-pub place-word-spec : {M : Type 1} → statement M
+pub place_word_spec : {M : Type 1} → statement M
 unfolding place_word
-place-word-spec =
+place_word_spec =
     tie.close
     (tie.spec
     (λ c κs. search rules)

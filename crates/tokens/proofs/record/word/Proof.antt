@@ -4,9 +4,9 @@ use Rattle.tokens.specs.Record.{word_at, capacity}
 use Rattle.tokens.proofs.record.word.Statement.{statement}
 use Rattle.tokens.proofs.record.word.Tie as tie
 
-pub word-spec : {M : Type 1} → statement M
+pub word_spec : {M : Type 1} → statement M
 unfolding word_at capacity
-word-spec =
+word_spec =
     tie.close
     (tie.spec
     (λ c. search steps)

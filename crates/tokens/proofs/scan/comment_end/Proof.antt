@@ -15,8 +15,8 @@ invariant-loop s p₀ p = (p₀.at ≤ p.at) × (trivia 1 p (chars s p.at) ≡ t
 abbrev decreases-loop : tie.decreases-loop
 decreases-loop s p₀ p = length s - p.at
 
-pub comment-end-spec : {M : Type 1} → statement M
-comment-end-spec =
+pub comment_end_spec : {M : Type 1} → statement M
+comment_end_spec =
     tie.close
     (tie.spec
     invariant-loop

@@ -15,8 +15,8 @@ many : (n more : ℕ) → 4294967295 - n ≤ more → 4294967295 ≡ counted (n 
 unfolding counted
 many n more h = rw (le-ltb (n + more) 4294967295 (omega arith))
 
-pub count-on-spec : {M : Type 1} → statement M
-count-on-spec =
+pub count_on_spec : {M : Type 1} → statement M
+count_on_spec =
     tie.close
     (tie.spec
     (λ c. search rules)

@@ -16,8 +16,8 @@ invariant-loop s line at₀ column₀ value₀ at column value =
 abbrev decreases-loop : tie.decreases-loop
 decreases-loop s line at₀ column₀ value₀ at column value = length s - at
 
-pub digit-run-spec : {M : Type 1} → statement M
-digit-run-spec =
+pub digit_run_spec : {M : Type 1} → statement M
+digit_run_spec =
     tie.close
     (tie.spec
     invariant-loop

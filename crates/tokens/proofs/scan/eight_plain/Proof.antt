@@ -17,8 +17,8 @@ opposite : (b : ℕ) → not (other b) ≡ is_plain b
 unfolding is_plain
 opposite b = not-or (eqb b 0x0A) (leb 0x80 b) ∙ ap (pick (eqb b 0x0A) false) (not-leb 0x80 b)
 
-pub eight-plain-spec : {M : Type 1} → statement M
-eight-plain-spec =
+pub eight_plain_spec : {M : Type 1} → statement M
+eight_plain_spec =
     tie.close
     (tie.spec
     (λ c. block-past _ _ _ (search rules))

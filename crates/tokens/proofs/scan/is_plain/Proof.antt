@@ -3,6 +3,6 @@ use Rattle.tokens.specs.Scan.{is_plain}
 use Rattle.tokens.proofs.scan.is_plain.Statement.{statement}
 use Rattle.tokens.proofs.scan.is_plain.Tie as tie
 
-pub is-plain-spec : {M : Type 1} → statement M
+pub is_plain_spec : {M : Type 1} → statement M
 unfolding is_plain
-is-plain-spec = tie.close (tie.spec (λ c. search steps) (λ c. search steps))
+is_plain_spec = tie.close (tie.spec (λ c. search steps) (λ c. search steps))

@@ -17,8 +17,8 @@ invariant-loop s line at₀ column₀ at column =
 abbrev decreases-loop : tie.decreases-loop
 decreases-loop s line at₀ column₀ at column = length s - at
 
-pub letters-end-spec : {M : Type 1} → statement M
-letters-end-spec =
+pub letters_end_spec : {M : Type 1} → statement M
+letters_end_spec =
     tie.close
     (tie.spec
     invariant-loop

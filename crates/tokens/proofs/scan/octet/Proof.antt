@@ -4,8 +4,8 @@ use Rattle.tokens.proofs.ScanLaws.{octet-read}
 use Rattle.tokens.proofs.scan.octet.Statement.{statement}
 use Rattle.tokens.proofs.scan.octet.Tie as tie
 
-pub octet-spec : {M : Type 1} → statement M
-octet-spec =
+pub octet_spec : {M : Type 1} → statement M
+octet_spec =
     tie.close
     (tie.spec
     (λ c. search rules)

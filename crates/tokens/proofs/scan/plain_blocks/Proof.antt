@@ -12,8 +12,8 @@ invariant-loop s from at₀ at = Row is_plain s from at
 abbrev decreases-loop : tie.decreases-loop
 decreases-loop s from at₀ at = length s - at
 
-pub plain-blocks-spec : {M : Type 1} → statement M
-plain-blocks-spec =
+pub plain_blocks_spec : {M : Type 1} → statement M
+plain_blocks_spec =
     tie.close
     (tie.spec
     invariant-loop

@@ -12,8 +12,8 @@ invariant-loop s start line column at₀ at = CommentFrom s start line column at
 abbrev decreases-loop : tie.decreases-loop
 decreases-loop s start line column at₀ at = length s - at
 
-pub plain-end-spec : {M : Type 1} → statement M
-plain-end-spec =
+pub plain_end_spec : {M : Type 1} → statement M
+plain_end_spec =
     tie.close
     (tie.spec
     invariant-loop

@@ -16,8 +16,8 @@ invariant-loop s at₀ line₀ column₀ at line column =
 abbrev decreases-loop : tie.decreases-loop
 decreases-loop s at₀ line₀ column₀ at line column = length s - at
 
-pub skip-trivia-spec : {M : Type 1} → statement M
-skip-trivia-spec =
+pub skip_trivia_spec : {M : Type 1} → statement M
+skip_trivia_spec =
     tie.close
     (tie.spec
     invariant-loop

@@ -16,8 +16,8 @@ invariant-loop s at₀ line₀ column₀ at line column =
 abbrev decreases-loop : tie.decreases-loop
 decreases-loop s at₀ line₀ column₀ at line column = length s - at
 
-pub string-end-spec : {M : Type 1} → statement M
-string-end-spec =
+pub string_end_spec : {M : Type 1} → statement M
+string_end_spec =
     tie.close
     (tie.spec
     invariant-loop

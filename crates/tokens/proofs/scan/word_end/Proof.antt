@@ -19,8 +19,8 @@ invariant-loop s start line column at₀ at =
 abbrev decreases-loop : tie.decreases-loop
 decreases-loop s start line column at₀ at = length s - at
 
-pub word-end-spec : {M : Type 1} → statement M
-word-end-spec =
+pub word_end_spec : {M : Type 1} → statement M
+word_end_spec =
     tie.close
     (tie.spec
     invariant-loop

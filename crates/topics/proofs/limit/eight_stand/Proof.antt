@@ -26,8 +26,8 @@ decreases-loop lent first earlier text named count lines₀ at₀ lines at = len
 more : (l m : List (List ℕ)) {count : ℕ} → count ≡ different m → most_topics < count → true ≡ leb most_topics (different (l ++ m))
 more l m e h = sym (le-leb most_topics (different (l ++ m)) (omega (arith, different-within m (l ++ m) (λ x. has_right x l m))))
 
-pub eight-stand-spec : {M : Type 1} → statement M
-eight-stand-spec =
+pub eight_stand_spec : {M : Type 1} → statement M
+eight_stand_spec =
     tie.close
     (tie.spec
     invariant-loop

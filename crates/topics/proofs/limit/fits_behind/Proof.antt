@@ -32,8 +32,8 @@ module _ (lent named : List (List ℕ)) (first earlier text : List ℕ) (x : Top
   one-fits {name} e b o m =
       rw (e, m, b, o) (not_is (too_many (lent ++ topics_in first (ranges_of earlier)) named (part_of text name.start (name.start + name.length))))
 
-pub fits-behind-spec : {M : Type 1} → statement M
-fits-behind-spec =
+pub fits_behind_spec : {M : Type 1} → statement M
+fits_behind_spec =
     tie.close
     (tie.spec
     (λ c. search rules)

@@ -49,8 +49,8 @@ invariant-loop lent topic at₀ at = has topic (lent_topics (drop at lent)) ≡ 
 abbrev decreases-loop : tie.decreases-loop
 decreases-loop lent topic at₀ at = length lent - at
 
-pub is-lent-spec : {M : Type 1} → statement M
-is-lent-spec =
+pub is_lent_spec : {M : Type 1} → statement M
+is_lent_spec =
     tie.close
     (tie.spec
     invariant-loop

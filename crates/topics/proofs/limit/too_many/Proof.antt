@@ -24,8 +24,8 @@ module _ (lent first named : List (List ℕ)) (topic : List ℕ) {t : Bool} (ask
     unfolding too_many
     new-one k e = rw (too_many-lent lent first named topic, ← asked, h, ← asked-named, k) e
 
-pub too-many-spec : {M : Type 1} → statement M
-too-many-spec =
+pub too_many_spec : {M : Type 1} → statement M
+too_many_spec =
     tie.close
     (tie.spec
     (λ c κs. search rules)

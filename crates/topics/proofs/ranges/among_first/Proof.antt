@@ -27,8 +27,8 @@ none s topic ranges n i o h k =
     let e : n ≡ i = omega arith in
     rw e (sym o)
 
-pub among-first-spec : {M : Type 1} → statement M
-among-first-spec =
+pub among_first_spec : {M : Type 1} → statement M
+among_first_spec =
     tie.close
     (tie.spec
     invariant-loop

@@ -31,8 +31,8 @@ done s ranges others {n} {i} e o h k =
     let d : n ≡ i = omega arith in
     rw (← e, d) o
 
-pub different-beside-spec : {M : Type 1} → statement M
-different-beside-spec =
+pub different_beside_spec : {M : Type 1} → statement M
+different_beside_spec =
     tie.close
     (tie.spec
     invariant-loop

@@ -18,8 +18,8 @@ none t e = rw (e, (none-stand t).are)
 alone : (t : List ℕ) (l : List (List ℕ)) {ranges : Ranges} {count : ℕ} → ranges ≡ no_ranges → count ≡ different (l ++ topics_in t ranges) → count ≡ different l
 alone t l e h = rw (e, (none-stand t).are, append-nil) at h
 
-pub different-in-both-spec : {M : Type 1} → statement M
-different-in-both-spec =
+pub different_in_both_spec : {M : Type 1} → statement M
+different_in_both_spec =
     tie.close
     (tie.spec
     (λ c κs. search rules)

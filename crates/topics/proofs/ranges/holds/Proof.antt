@@ -15,7 +15,7 @@ in_use_lem : (s topic : List ℕ) (ranges : Ranges) {n : ℕ} {r : Bool} → n �
 unfolding topics_in
 in_use_lem s topic ranges e h = rw (← e) h
 
-pub holds-spec : {M : Type 1} → statement M
-holds-spec =
+pub holds_spec : {M : Type 1} → statement M
+holds_spec =
     tie.close
     (tie.spec (λ c κs. search rules) (λ c κs. search (rules, most-used)) (λ c. search (rules, in_use_lem)))

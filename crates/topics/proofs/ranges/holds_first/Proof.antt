@@ -15,8 +15,8 @@ module _ (topic : List ℕ) (l m : List (List ℕ)) {t : Bool} (said : t ≡ has
   in_second : t ≡ false → {u : Bool} → u ≡ has topic m → u ≡ has topic (l ++ m)
   in_second h e = rw (has-append topic l m, ← said, h) e
 
-pub holds-first-spec : {M : Type 1} → statement M
-holds-first-spec =
+pub holds_first_spec : {M : Type 1} → statement M
+holds_first_spec =
     tie.close
     (tie.spec
     (λ c κs. search rules)

@@ -15,7 +15,7 @@ in_use_lem : (s topic : List ℕ) (ranges : Ranges) (others : List (List ℕ)) {
 unfolding topics_in
 in_use_lem s topic ranges others e h = rw (← e) h
 
-pub holds-in-both-spec : {M : Type 1} → statement M
-holds-in-both-spec =
+pub holds_in_both_spec : {M : Type 1} → statement M
+holds_in_both_spec =
     tie.close
     (tie.spec (λ c κs. search rules) (λ c κs. search (rules, most-used)) (λ c. search (rules, in_use_lem)))

@@ -3,6 +3,6 @@ use Rattle.topics.specs.Ranges.{no_ranges}
 use Rattle.topics.proofs.ranges.no_ranges.Statement.{statement}
 use Rattle.topics.proofs.ranges.no_ranges.Tie as tie
 
-pub no-ranges-spec : {M : Type 1} → statement M
+pub no_ranges_spec : {M : Type 1} → statement M
 unfolding no_ranges
-no-ranges-spec = tie.close (tie.spec (λ c. refl))
+no_ranges_spec = tie.close (tie.spec (λ c. refl))

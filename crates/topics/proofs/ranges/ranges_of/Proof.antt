@@ -47,8 +47,8 @@ left ranges (start ∷ size ∷ words) h = absurd (omega arith)
 done : (words : List ℕ) (i : ℕ) {ranges : Ranges} → ranges_from ranges (drop (i - 1) words) ≡ ranges_of words → length words ≤ i → ranges ≡ ranges_of words
 done words i {ranges} g l = left ranges (drop (i - 1) words) (omega (arith, length-drop (i - 1) words)) ∙ g
 
-pub ranges-of-spec : {M : Type 1} → statement M
-ranges-of-spec =
+pub ranges_of_spec : {M : Type 1} → statement M
+ranges_of_spec =
     tie.close
     (tie.spec
     invariant-loop

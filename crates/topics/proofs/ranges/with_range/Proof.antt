@@ -4,7 +4,7 @@ use Rattle.topics.specs.Ranges.{with_range}
 use Rattle.topics.proofs.ranges.with_range.Statement.{statement}
 use Rattle.topics.proofs.ranges.with_range.Tie as tie
 
-pub with-range-spec : {M : Type 1} → statement M
+pub with_range_spec : {M : Type 1} → statement M
 unfolding with_range
-with-range-spec =
+with_range_spec =
     tie.close (tie.spec (λ c. search steps) (λ c. search rules) (λ c. search rules) (λ c. search rules) (λ c. search steps))

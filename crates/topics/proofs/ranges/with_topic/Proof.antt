@@ -9,7 +9,7 @@ use Rattle.topics.proofs.ranges.with_topic.Tie as tie
 told : (ranges : Ranges) (x : Topic) {v : Topic} {r : Ranges} → x ≡ v → r ≡ with_topic ranges v → r ≡ with_topic ranges x
 told ranges x e h = rw e h
 
-pub with-topic-spec : {M : Type 1} → statement M
+pub with_topic_spec : {M : Type 1} → statement M
 unfolding with_topic
-with-topic-spec =
+with_topic_spec =
     tie.close (tie.spec (λ c. search rules) (λ c. search rules) (λ c κs. search rules) (λ c. search (rules, told)) (λ c. search (rules, told)))

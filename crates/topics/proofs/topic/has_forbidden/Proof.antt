@@ -43,9 +43,9 @@ invariant-loop topic at₀ at = forbidden_among (chars topic at) ≡ forbidden_a
 abbrev decreases-loop : tie.decreases-loop
 decreases-loop topic at₀ at = length topic - at
 
-pub has-forbidden-spec : {M : Type 1} → statement M
+pub has_forbidden_spec : {M : Type 1} → statement M
 unfolding forbidden
-has-forbidden-spec =
+has_forbidden_spec =
     tie.close
     (tie.spec
     invariant-loop

@@ -4,9 +4,9 @@ use Rattle.topics.specs.Topic.{is_forbidden}
 use Rattle.topics.proofs.topic.is_forbidden.Statement.{statement}
 use Rattle.topics.proofs.topic.is_forbidden.Tie as tie
 
-pub is-forbidden-spec : {M : Type 1} → statement M
+pub is_forbidden_spec : {M : Type 1} → statement M
 unfolding is_forbidden
-is-forbidden-spec =
+is_forbidden_spec =
     tie.close
     (tie.spec
     (λ c. search steps)

@@ -9,8 +9,8 @@ invariant-loop marks d₀ d = Unit {0}
 abbrev decreases-loop : tie.decreases-loop
 decreases-loop marks d₀ d = 7 - d
 
-pub in-order-spec : {M : Type 1} → statement M
-in-order-spec =
+pub in_order_spec : {M : Type 1} → statement M
+in_order_spec =
     tie.close
     (tie.spec
     invariant-loop

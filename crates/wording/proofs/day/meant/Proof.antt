@@ -9,8 +9,8 @@ invariant-loop w d₀ d = Unit {0}
 abbrev decreases-loop : tie.decreases-loop
 decreases-loop w d₀ d = 7 - d
 
-pub meant-spec : {M : Type 1} → statement M
-meant-spec =
+pub meant_spec : {M : Type 1} → statement M
+meant_spec =
     tie.close
     (tie.spec
     invariant-loop

@@ -9,8 +9,8 @@ invariant-loop words count line column i₀ i = Unit {0}
 abbrev decreases-loop : tie.decreases-loop
 decreases-loop words count line column i₀ i = count - i
 
-pub token-at-spec : {M : Type 1} → statement M
-token-at-spec =
+pub token_at_spec : {M : Type 1} → statement M
+token_at_spec =
     tie.close
     (tie.spec
     invariant-loop

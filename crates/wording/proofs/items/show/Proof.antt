@@ -8,8 +8,8 @@ invariant-loop name w marks last all k₀ left₀ k left = Unit {0}
 abbrev decreases-loop : tie.decreases-loop
 decreases-loop name w marks last all k₀ left₀ k left = left
 
-pub show-spec : {M : Type 1} → statement M
-show-spec =
+pub show_spec : {M : Type 1} → statement M
+show_spec =
     tie.close
     (tie.spec
     invariant-loop

@@ -10,8 +10,8 @@ invariant-loop a b back i₀ i = Unit {0}
 abbrev decreases-loop : tie.decreases-loop
 decreases-loop a b back i₀ i = length a - i
 
-pub common-spec : {M : Type 1} → statement M
-common-spec =
+pub common_spec : {M : Type 1} → statement M
+common_spec =
     tie.close
     (tie.spec
     invariant-loop

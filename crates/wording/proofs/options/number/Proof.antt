@@ -9,8 +9,8 @@ invariant-loop word n₀ n = Unit {0}
 abbrev decreases-loop : tie.decreases-loop
 decreases-loop word n₀ n = 256 - n
 
-pub number-spec : {M : Type 1} → statement M
-number-spec =
+pub number_spec : {M : Type 1} → statement M
+number_spec =
     tie.close
     (tie.spec
     invariant-loop

@@ -8,8 +8,8 @@ invariant-loop w blanked i₀ left₀ i left = Unit {0}
 abbrev decreases-loop : tie.decreases-loop
 decreases-loop w blanked i₀ left₀ i left = left
 
-pub characters-spec : {M : Type 1} → statement M
-characters-spec =
+pub characters_spec : {M : Type 1} → statement M
+characters_spec =
     tie.close
     (tie.spec
     invariant-loop

@@ -8,8 +8,8 @@ invariant-loop w i₀ left₀ i left = Unit {0}
 abbrev decreases-loop : tie.decreases-loop
 decreases-loop w i₀ left₀ i left = left
 
-pub is-shown-spec : {M : Type 1} → statement M
-is-shown-spec =
+pub is_shown_spec : {M : Type 1} → statement M
+is_shown_spec =
     tie.close
     (tie.spec
     invariant-loop

@@ -8,8 +8,8 @@ invariant-loop w at count i₀ left₀ i left = Unit {0}
 abbrev decreases-loop : tie.decreases-loop
 decreases-loop w at count i₀ left₀ i left = left
 
-pub skip-spec : {M : Type 1} → statement M
-skip-spec =
+pub skip_spec : {M : Type 1} → statement M
+skip_spec =
     tie.close
     (tie.spec
     invariant-loop

@@ -9,8 +9,8 @@ invariant-loop text words count i found₀ k₀ found k = Unit {0}
 abbrev decreases-loop : tie.decreases-loop
 decreases-loop text words count i found₀ k₀ found k = count - k
 
-pub adapter-spec : {M : Type 1} → statement M
-adapter-spec =
+pub adapter_spec : {M : Type 1} → statement M
+adapter_spec =
     tie.close
     (tie.spec
     invariant-loop

@@ -8,8 +8,8 @@ invariant-loop text words i sections k₀ k = Unit {0}
 abbrev decreases-loop : tie.decreases-loop
 decreases-loop text words i sections k₀ k = k
 
-pub open-before-spec : {M : Type 1} → statement M
-open-before-spec =
+pub open_before_spec : {M : Type 1} → statement M
+open_before_spec =
     tie.close
     (tie.spec
     invariant-loop

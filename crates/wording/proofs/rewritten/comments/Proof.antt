@@ -10,8 +10,8 @@ invariant-loop rule n₀ before₀ i₀ n before i = Unit {0}
 abbrev decreases-loop : tie.decreases-loop
 decreases-loop rule n₀ before₀ i₀ n before i = length rule - i
 
-pub comments-spec : {M : Type 1} → statement M
-comments-spec =
+pub comments_spec : {M : Type 1} → statement M
+comments_spec =
     tie.close
     (tie.spec
     invariant-loop

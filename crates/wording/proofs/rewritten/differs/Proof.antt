@@ -8,8 +8,8 @@ invariant-loop a a-words m b b-words n class i₀ j₀ left₀ i j left = Unit {
 abbrev decreases-loop : tie.decreases-loop
 decreases-loop a a-words m b b-words n class i₀ j₀ left₀ i j left = left
 
-pub differs-spec : {M : Type 1} → statement M
-differs-spec =
+pub differs_spec : {M : Type 1} → statement M
+differs_spec =
     tie.close
     (tie.spec
     invariant-loop

@@ -8,8 +8,8 @@ invariant-loop rule words count rows i₀ at₀ left₀ i at left = Unit {0}
 abbrev decreases-loop : tie.decreases-loop
 decreases-loop rule words count rows i₀ at₀ left₀ i at left = left
 
-pub has-names-spec : {M : Type 1} → statement M
-has-names-spec =
+pub has_names_spec : {M : Type 1} → statement M
+has_names_spec =
     tie.close
     (tie.spec
     invariant-loop

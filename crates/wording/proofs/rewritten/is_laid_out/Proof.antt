@@ -9,8 +9,8 @@ invariant-loop rule words count at₀ i₀ t6 at i = Unit {0}
 abbrev decreases-loop : tie.decreases-loop
 decreases-loop rule words count at₀ i₀ t6 at i = count - i
 
-pub is-laid-out-spec : {M : Type 1} → statement M
-is-laid-out-spec =
+pub is_laid_out_spec : {M : Type 1} → statement M
+is_laid_out_spec =
     tie.close
     (tie.spec
     invariant-loop

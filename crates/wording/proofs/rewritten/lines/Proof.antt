@@ -9,8 +9,8 @@ invariant-loop marks class₀ class = Unit {0}
 abbrev decreases-loop : tie.decreases-loop
 decreases-loop marks class₀ class = 8 - class
 
-pub lines-spec : {M : Type 1} → statement M
-lines-spec =
+pub lines_spec : {M : Type 1} → statement M
+lines_spec =
     tie.close
     (tie.spec
     invariant-loop

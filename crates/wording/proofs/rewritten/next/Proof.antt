@@ -9,8 +9,8 @@ invariant-loop rule words count at class i₀ i = Unit {0}
 abbrev decreases-loop : tie.decreases-loop
 decreases-loop rule words count at class i₀ i = count - i
 
-pub next-spec : {M : Type 1} → statement M
-next-spec =
+pub next_spec : {M : Type 1} → statement M
+next_spec =
     tie.close
     (tie.spec
     invariant-loop

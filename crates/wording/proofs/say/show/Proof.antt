@@ -8,8 +8,8 @@ invariant-loop text sheet answer row sentence i₀ left₀ i left = Unit {0}
 abbrev decreases-loop : tie.decreases-loop
 decreases-loop text sheet answer row sentence i₀ left₀ i left = left
 
-pub show-spec : {M : Type 1} → statement M
-show-spec =
+pub show_spec : {M : Type 1} → statement M
+show_spec =
     tie.close
     (tie.spec
     invariant-loop

@@ -9,8 +9,8 @@ invariant-loop sheet party set a₀ a = Unit {0}
 abbrev decreases-loop : tie.decreases-loop
 decreases-loop sheet party set a₀ a = 256 - a
 
-pub is-shared-spec : {M : Type 1} → statement M
-is-shared-spec =
+pub is_shared_spec : {M : Type 1} → statement M
+is_shared_spec =
     tie.close
     (tie.spec
     invariant-loop

@@ -11,8 +11,8 @@ invariant-loop sheet party marks₀ set at₀ n₀ marks at n = length marks ≡
 abbrev decreases-loop : tie.decreases-loop
 decreases-loop sheet party marks₀ set at₀ n₀ marks at n = 513 - n
 
-pub mark-own-spec : {M : Type 1} → statement M
-mark-own-spec =
+pub mark_own_spec : {M : Type 1} → statement M
+mark_own_spec =
     tie.close
     (tie.spec
     invariant-loop

@@ -8,8 +8,8 @@ invariant-loop sheet settings of scope marks all k₀ left₀ t9 k left = Unit {
 abbrev decreases-loop : tie.decreases-loop
 decreases-loop sheet settings of scope marks all k₀ left₀ t9 k left = left
 
-pub items-spec : {M : Type 1} → statement M
-items-spec =
+pub items_spec : {M : Type 1} → statement M
+items_spec =
     tie.close
     (tie.spec
     invariant-loop

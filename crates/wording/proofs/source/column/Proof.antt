@@ -8,8 +8,8 @@ invariant-loop l at n₀ i₀ left₀ n i left = Unit {0}
 abbrev decreases-loop : tie.decreases-loop
 decreases-loop l at n₀ i₀ left₀ n i left = left
 
-pub column-spec : {M : Type 1} → statement M
-column-spec =
+pub column_spec : {M : Type 1} → statement M
+column_spec =
     tie.close
     (tie.spec
     invariant-loop

@@ -10,8 +10,8 @@ invariant-loop w start i₀ i = Unit {0}
 abbrev decreases-loop : tie.decreases-loop
 decreases-loop w start i₀ i = length w - i
 
-pub number-end-spec : {M : Type 1} → statement M
-number-end-spec =
+pub number_end_spec : {M : Type 1} → statement M
+number_end_spec =
     tie.close
     (tie.spec
     invariant-loop

@@ -8,8 +8,8 @@ invariant-loop w i₀ left₀ i left = Unit {0}
 abbrev decreases-loop : tie.decreases-loop
 decreases-loop w i₀ left₀ i left = left
 
-pub forbidden-spec : {M : Type 1} → statement M
-forbidden-spec =
+pub forbidden_spec : {M : Type 1} → statement M
+forbidden_spec =
     tie.close
     (tie.spec
     invariant-loop

@@ -8,8 +8,8 @@ invariant-loop lent w at₀ left₀ at left = Unit {0}
 abbrev decreases-loop : tie.decreases-loop
 decreases-loop lent w at₀ left₀ at left = left
 
-pub near-topic-spec : {M : Type 1} → statement M
-near-topic-spec =
+pub near_topic_spec : {M : Type 1} → statement M
+near_topic_spec =
     tie.close
     (tie.spec
     invariant-loop

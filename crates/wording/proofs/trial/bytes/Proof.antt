@@ -11,8 +11,8 @@ invariant-loop trial₀ at w p₀ i₀ trial p i = length trial ≡ length trial
 abbrev decreases-loop : tie.decreases-loop
 decreases-loop trial₀ at w p₀ i₀ trial p i = length w - i
 
-pub bytes-spec : {M : Type 1} → statement M
-bytes-spec =
+pub bytes_spec : {M : Type 1} → statement M
+bytes_spec =
     tie.close
     (tie.spec
     invariant-loop

@@ -9,8 +9,8 @@ invariant-loop sheet q at₀ n₀ at n = Unit {0}
 abbrev decreases-loop : tie.decreases-loop
 decreases-loop sheet q at₀ n₀ at n = 513 - n
 
-pub notes-spec : {M : Type 1} → statement M
-notes-spec =
+pub notes_spec : {M : Type 1} → statement M
+notes_spec =
     tie.close
     (tie.spec
     invariant-loop

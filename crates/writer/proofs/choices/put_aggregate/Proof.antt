@@ -9,9 +9,9 @@ use Rattle.spelling.proofs.FormLaws.{of_form}
 use Rattle.writer.proofs.choices.put_aggregate.Statement.{statement}
 use Rattle.writer.proofs.choices.put_aggregate.Tie as tie
 
-pub put-aggregate-spec : {M : Type 1} → statement M
+pub put_aggregate_spec : {M : Type 1} → statement M
 unfolding further spelled
-put-aggregate-spec =
+put_aggregate_spec =
     tie.close
     (tie.spec
     (λ c. search rules)

@@ -9,9 +9,9 @@ use Rattle.spelling.proofs.FormLaws.{of_form}
 use Rattle.writer.proofs.choices.put_comparison.Statement.{statement}
 use Rattle.writer.proofs.choices.put_comparison.Tie as tie
 
-pub put-comparison-spec : {M : Type 1} → statement M
+pub put_comparison_spec : {M : Type 1} → statement M
 unfolding further spelled spelled_sign
-put-comparison-spec =
+put_comparison_spec =
     tie.close
     (tie.spec
     (λ c. search rules)

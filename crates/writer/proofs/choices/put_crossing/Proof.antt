@@ -9,9 +9,9 @@ use Rattle.spelling.proofs.FormLaws.{of_form}
 use Rattle.writer.proofs.choices.put_crossing.Statement.{statement}
 use Rattle.writer.proofs.choices.put_crossing.Tie as tie
 
-pub put-crossing-spec : {M : Type 1} → statement M
+pub put_crossing_spec : {M : Type 1} → statement M
 unfolding further spelled
-put-crossing-spec =
+put_crossing_spec =
     tie.close
     (tie.spec
     (λ c. search rules)

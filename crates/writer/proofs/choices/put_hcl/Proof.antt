@@ -9,9 +9,9 @@ use Rattle.spelling.proofs.FormLaws.{of_form}
 use Rattle.writer.proofs.choices.put_hcl.Statement.{statement}
 use Rattle.writer.proofs.choices.put_hcl.Tie as tie
 
-pub put-hcl-spec : {M : Type 1} → statement M
+pub put_hcl_spec : {M : Type 1} → statement M
 unfolding further spelled
-put-hcl-spec =
+put_hcl_spec =
     tie.close
     (tie.spec
     (λ c. search rules)

@@ -10,9 +10,9 @@ use Rattle.spelling.proofs.FormLaws.{of_form}
 use Rattle.writer.proofs.choices.put_input_reading.Statement.{statement}
 use Rattle.writer.proofs.choices.put_input_reading.Tie as tie
 
-pub put-input-reading-spec : {M : Type 1} → statement M
+pub put_input_reading_spec : {M : Type 1} → statement M
 unfolding further spelled spelled_sign
-put-input-reading-spec =
+put_input_reading_spec =
     tie.close
     (tie.spec
     (λ c. search rules)

@@ -10,9 +10,9 @@ use Rattle.spelling.proofs.FormLaws.{of_form}
 use Rattle.writer.proofs.choices.put_lamp_reading.Statement.{statement}
 use Rattle.writer.proofs.choices.put_lamp_reading.Tie as tie
 
-pub put-lamp-reading-spec : {M : Type 1} → statement M
+pub put_lamp_reading_spec : {M : Type 1} → statement M
 unfolding further spelled spelled_sign
-put-lamp-reading-spec =
+put_lamp_reading_spec =
     tie.close
     (tie.spec
     (λ c. search rules)

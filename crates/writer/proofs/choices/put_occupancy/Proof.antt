@@ -9,9 +9,9 @@ use Rattle.spelling.proofs.FormLaws.{of_form}
 use Rattle.writer.proofs.choices.put_occupancy.Statement.{statement}
 use Rattle.writer.proofs.choices.put_occupancy.Tie as tie
 
-pub put-occupancy-spec : {M : Type 1} → statement M
+pub put_occupancy_spec : {M : Type 1} → statement M
 unfolding further spelled
-put-occupancy-spec =
+put_occupancy_spec =
     tie.close
     (tie.spec
     (λ c. search rules)

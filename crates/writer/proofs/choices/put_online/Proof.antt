@@ -9,9 +9,9 @@ use Rattle.spelling.proofs.FormLaws.{of_form}
 use Rattle.writer.proofs.choices.put_online.Statement.{statement}
 use Rattle.writer.proofs.choices.put_online.Tie as tie
 
-pub put-online-spec : {M : Type 1} → statement M
+pub put_online_spec : {M : Type 1} → statement M
 unfolding further spelled split
-put-online-spec =
+put_online_spec =
     tie.close
     (tie.spec
     (λ c. search rules)

@@ -9,9 +9,9 @@ use Rattle.spelling.proofs.FormLaws.{of_form}
 use Rattle.writer.proofs.choices.put_override.Statement.{statement}
 use Rattle.writer.proofs.choices.put_override.Tie as tie
 
-pub put-override-spec : {M : Type 1} → statement M
+pub put_override_spec : {M : Type 1} → statement M
 unfolding further spelled
-put-override-spec =
+put_override_spec =
     tie.close
     (tie.spec
     (λ c. search rules)

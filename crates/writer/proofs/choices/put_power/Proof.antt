@@ -9,9 +9,9 @@ use Rattle.spelling.proofs.FormLaws.{of_form}
 use Rattle.writer.proofs.choices.put_power.Statement.{statement}
 use Rattle.writer.proofs.choices.put_power.Tie as tie
 
-pub put-power-spec : {M : Type 1} → statement M
+pub put_power_spec : {M : Type 1} → statement M
 unfolding further spelled
-put-power-spec =
+put_power_spec =
     tie.close
     (tie.spec
     (λ c. search rules)

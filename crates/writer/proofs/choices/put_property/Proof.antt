@@ -10,9 +10,9 @@ use Rattle.spelling.proofs.FormLaws.{of_form}
 use Rattle.writer.proofs.choices.put_property.Statement.{statement}
 use Rattle.writer.proofs.choices.put_property.Tie as tie
 
-pub put-property-spec : {M : Type 1} → statement M
+pub put_property_spec : {M : Type 1} → statement M
 unfolding further spelled spelled_sign
-put-property-spec =
+put_property_spec =
     tie.close
     (tie.spec
     (λ c. search rules)

@@ -9,9 +9,9 @@ use Rattle.spelling.proofs.FormLaws.{of_form}
 use Rattle.writer.proofs.choices.put_sun.Statement.{statement}
 use Rattle.writer.proofs.choices.put_sun.Tie as tie
 
-pub put-sun-spec : {M : Type 1} → statement M
+pub put_sun_spec : {M : Type 1} → statement M
 unfolding further spelled
-put-sun-spec =
+put_sun_spec =
     tie.close
     (tie.spec
     (λ c. search rules)

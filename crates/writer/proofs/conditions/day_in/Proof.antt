@@ -4,8 +4,8 @@ use Rattle.writer.proofs.MadeLaws.{day_in-made}
 use Rattle.writer.proofs.conditions.day_in.Statement.{statement}
 use Rattle.writer.proofs.conditions.day_in.Tie as tie
 
-pub day-in-spec : {M : Type 1} → statement M
-day-in-spec =
+pub day_in_spec : {M : Type 1} → statement M
+day_in_spec =
     tie.close
     (tie.spec
     (λ c. search rules)

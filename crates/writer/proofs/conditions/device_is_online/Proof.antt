@@ -4,8 +4,8 @@ use Rattle.writer.proofs.MadeLaws.{device_is_online-made}
 use Rattle.writer.proofs.conditions.device_is_online.Statement.{statement}
 use Rattle.writer.proofs.conditions.device_is_online.Tie as tie
 
-pub device-is-online-spec : {M : Type 1} → statement M
-device-is-online-spec =
+pub device_is_online_spec : {M : Type 1} → statement M
+device_is_online_spec =
     tie.close
     (tie.spec
     (λ c. search rules)

@@ -4,8 +4,8 @@ use Rattle.writer.proofs.MadeLaws.{group_state-made}
 use Rattle.writer.proofs.conditions.group_state.Statement.{statement}
 use Rattle.writer.proofs.conditions.group_state.Tie as tie
 
-pub group-state-spec : {M : Type 1} → statement M
-group-state-spec =
+pub group_state_spec : {M : Type 1} → statement M
+group_state_spec =
     tie.close
     (tie.spec
     (λ c. search rules)

@@ -4,8 +4,8 @@ use Rattle.writer.proofs.MadeLaws.{hcl_state-made}
 use Rattle.writer.proofs.conditions.hcl_state.Statement.{statement}
 use Rattle.writer.proofs.conditions.hcl_state.Tie as tie
 
-pub hcl-state-spec : {M : Type 1} → statement M
-hcl-state-spec =
+pub hcl_state_spec : {M : Type 1} → statement M
+hcl_state_spec =
     tie.close
     (tie.spec
     (λ c. search rules)

@@ -4,8 +4,8 @@ use Rattle.writer.proofs.MadeLaws.{input_state-made}
 use Rattle.writer.proofs.conditions.input_state.Statement.{statement}
 use Rattle.writer.proofs.conditions.input_state.Tie as tie
 
-pub input-state-spec : {M : Type 1} → statement M
-input-state-spec =
+pub input_state_spec : {M : Type 1} → statement M
+input_state_spec =
     tie.close
     (tie.spec
     (λ c κs. let a = c.before.before.args in fits-1 (input_state-made a.primary a.r a.state) _ _ c.before.before.requires)

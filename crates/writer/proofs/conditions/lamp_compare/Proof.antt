@@ -4,8 +4,8 @@ use Rattle.writer.proofs.MadeLaws.{lamp_compare-made}
 use Rattle.writer.proofs.conditions.lamp_compare.Statement.{statement}
 use Rattle.writer.proofs.conditions.lamp_compare.Tie as tie
 
-pub lamp-compare-spec : {M : Type 1} → statement M
-lamp-compare-spec =
+pub lamp_compare_spec : {M : Type 1} → statement M
+lamp_compare_spec =
     tie.close
     (tie.spec
     (λ c. search rules)

@@ -4,8 +4,8 @@ use Rattle.writer.proofs.MadeLaws.{lamp_is-made}
 use Rattle.writer.proofs.conditions.lamp_is.Statement.{statement}
 use Rattle.writer.proofs.conditions.lamp_is.Tie as tie
 
-pub lamp-is-spec : {M : Type 1} → statement M
-lamp-is-spec =
+pub lamp_is_spec : {M : Type 1} → statement M
+lamp_is_spec =
     tie.close
     (tie.spec
     (λ c. search rules)

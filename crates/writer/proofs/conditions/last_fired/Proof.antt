@@ -4,8 +4,8 @@ use Rattle.writer.proofs.MadeLaws.{last_fired-made}
 use Rattle.writer.proofs.conditions.last_fired.Statement.{statement}
 use Rattle.writer.proofs.conditions.last_fired.Tie as tie
 
-pub last-fired-spec : {M : Type 1} → statement M
-last-fired-spec =
+pub last_fired_spec : {M : Type 1} → statement M
+last_fired_spec =
     tie.close
     (tie.spec
     (λ c. search rules)

@@ -4,8 +4,8 @@ use Rattle.writer.proofs.MadeLaws.{light_compare-made}
 use Rattle.writer.proofs.conditions.light_compare.Statement.{statement}
 use Rattle.writer.proofs.conditions.light_compare.Tie as tie
 
-pub light-compare-spec : {M : Type 1} → statement M
-light-compare-spec =
+pub light_compare_spec : {M : Type 1} → statement M
+light_compare_spec =
     tie.close
     (tie.spec
     (λ c κs. let a = c.before.before.before.args in fits-1 (light_compare-made a.primary a.text.now a.r a.way a.value) _ _ c.before.before.before.requires)

@@ -11,9 +11,9 @@ use Rattle.spelling.proofs.PartLaws.{named-bytes}
 use Rattle.writer.proofs.conditions.put_condition.Statement.{statement}
 use Rattle.writer.proofs.conditions.put_condition.Tie as tie
 
-pub put-condition-spec : {M : Type 1} → statement M
+pub put_condition_spec : {M : Type 1} → statement M
 unfolding further spelled condition_pieces split
-put-condition-spec =
+put_condition_spec =
     tie.close
     (tie.spec
     (λ c. search rules)

@@ -4,8 +4,8 @@ use Rattle.writer.proofs.MadeLaws.{sun_is-made}
 use Rattle.writer.proofs.conditions.sun_is.Statement.{statement}
 use Rattle.writer.proofs.conditions.sun_is.Tie as tie
 
-pub sun-is-spec : {M : Type 1} → statement M
-sun-is-spec =
+pub sun_is_spec : {M : Type 1} → statement M
+sun_is_spec =
     tie.close
     (tie.spec
     (λ c. search rules)

@@ -4,8 +4,8 @@ use Rattle.writer.proofs.MadeLaws.{time_in_range-made}
 use Rattle.writer.proofs.conditions.time_in_range.Statement.{statement}
 use Rattle.writer.proofs.conditions.time_in_range.Tie as tie
 
-pub time-in-range-spec : {M : Type 1} → statement M
-time-in-range-spec =
+pub time_in_range_spec : {M : Type 1} → statement M
+time_in_range_spec =
     tie.close
     (tie.spec
     (λ c. search rules)

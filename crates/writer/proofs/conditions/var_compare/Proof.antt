@@ -4,8 +4,8 @@ use Rattle.writer.proofs.MadeLaws.{var_compare-made}
 use Rattle.writer.proofs.conditions.var_compare.Statement.{statement}
 use Rattle.writer.proofs.conditions.var_compare.Tie as tie
 
-pub var-compare-spec : {M : Type 1} → statement M
-var-compare-spec =
+pub var_compare_spec : {M : Type 1} → statement M
+var_compare_spec =
     tie.close
     (tie.spec
     (λ c. search rules)

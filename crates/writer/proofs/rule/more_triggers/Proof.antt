@@ -15,8 +15,8 @@ invariant-loop out₀ at primary first second l end₀ i₀ out end i =
 abbrev decreases-loop : tie.decreases-loop
 decreases-loop out₀ at primary first second l end₀ i₀ out end i = l.count - i
 
-pub more-triggers-spec : {M : Type 1} → statement M
-more-triggers-spec =
+pub more_triggers_spec : {M : Type 1} → statement M
+more_triggers_spec =
     tie.close
     (tie.spec
     invariant-loop

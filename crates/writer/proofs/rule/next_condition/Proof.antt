@@ -4,8 +4,8 @@ use Rattle.writer.proofs.RuleLaws.{behind-made}
 use Rattle.writer.proofs.rule.next_condition.Statement.{statement}
 use Rattle.writer.proofs.rule.next_condition.Tie as tie
 
-pub next-condition-spec : {M : Type 1} → statement M
-next-condition-spec =
+pub next_condition_spec : {M : Type 1} → statement M
+next_condition_spec =
     tie.close
     (tie.spec
     (λ c. search rules)

@@ -4,8 +4,8 @@ use Rattle.writer.proofs.RuleLaws.{behind-made}
 use Rattle.writer.proofs.rule.next_trigger.Statement.{statement}
 use Rattle.writer.proofs.rule.next_trigger.Tie as tie
 
-pub next-trigger-spec : {M : Type 1} → statement M
-next-trigger-spec =
+pub next_trigger_spec : {M : Type 1} → statement M
+next_trigger_spec =
     tie.close
     (tie.spec
     (λ c. search rules)

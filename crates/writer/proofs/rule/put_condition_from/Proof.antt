@@ -4,8 +4,8 @@ use Rattle.writer.proofs.RuleLaws.{first_condition_lem, second-condition}
 use Rattle.writer.proofs.rule.put_condition_from.Statement.{statement}
 use Rattle.writer.proofs.rule.put_condition_from.Tie as tie
 
-pub put-condition-from-spec : {M : Type 1} → statement M
-put-condition-from-spec =
+pub put_condition_from_spec : {M : Type 1} → statement M
+put_condition_from_spec =
     tie.close
     (tie.spec
     (λ c κs.

@@ -6,8 +6,8 @@ use Rattle.writer.proofs.RuleLaws.{no_conditions, conditions-made}
 use Rattle.writer.proofs.rule.put_conditions.Statement.{statement}
 use Rattle.writer.proofs.rule.put_conditions.Tie as tie
 
-pub put-conditions-spec : {M : Type 1} → statement M
-put-conditions-spec =
+pub put_conditions_spec : {M : Type 1} → statement M
+put_conditions_spec =
     tie.close
     (tie.spec
     (λ c. rw (no_conditions _ _ c.if1.true) put-none)

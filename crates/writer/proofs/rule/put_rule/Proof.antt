@@ -6,8 +6,8 @@ use Rattle.writer.proofs.RuleLaws.{some-triggers, rule-made}
 use Rattle.writer.proofs.rule.put_rule.Statement.{statement}
 use Rattle.writer.proofs.rule.put_rule.Tie as tie
 
-pub put-rule-spec : {M : Type 1} → statement M
-put-rule-spec =
+pub put_rule_spec : {M : Type 1} → statement M
+put_rule_spec =
     tie.close
     (tie.spec
     (λ c κs.

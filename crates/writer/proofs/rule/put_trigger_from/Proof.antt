@@ -4,8 +4,8 @@ use Rattle.writer.proofs.RuleLaws.{first_trigger_lem, second-trigger}
 use Rattle.writer.proofs.rule.put_trigger_from.Statement.{statement}
 use Rattle.writer.proofs.rule.put_trigger_from.Tie as tie
 
-pub put-trigger-from-spec : {M : Type 1} → statement M
-put-trigger-from-spec =
+pub put_trigger_from_spec : {M : Type 1} → statement M
+put_trigger_from_spec =
     tie.close
     (tie.spec
     (λ c κs.

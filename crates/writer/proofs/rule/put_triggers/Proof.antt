@@ -6,8 +6,8 @@ use Rattle.writer.proofs.RuleLaws.{triggers-made}
 use Rattle.writer.proofs.rule.put_triggers.Statement.{statement}
 use Rattle.writer.proofs.rule.put_triggers.Tie as tie
 
-pub put-triggers-spec : {M : Type 1} → statement M
-put-triggers-spec =
+pub put_triggers_spec : {M : Type 1} → statement M
+put_triggers_spec =
     tie.close
     (tie.spec
     (λ c. search rules)

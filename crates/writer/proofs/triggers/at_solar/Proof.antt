@@ -5,8 +5,8 @@ use Rattle.writer.proofs.MadeLaws.{at_solar-held}
 use Rattle.writer.proofs.triggers.at_solar.Statement.{statement}
 use Rattle.writer.proofs.triggers.at_solar.Tie as tie
 
-pub at-solar-spec : {M : Type 1} → statement M
-at-solar-spec =
+pub at_solar_spec : {M : Type 1} → statement M
+at_solar_spec =
     tie.close
     (tie.spec
     (λ c. search rules)

@@ -4,8 +4,8 @@ use Rattle.writer.proofs.MadeLaws.{at_time-made}
 use Rattle.writer.proofs.triggers.at_time.Statement.{statement}
 use Rattle.writer.proofs.triggers.at_time.Tie as tie
 
-pub at-time-spec : {M : Type 1} → statement M
-at-time-spec =
+pub at_time_spec : {M : Type 1} → statement M
+at_time_spec =
     tie.close
     (tie.spec
     (λ c. search rules)

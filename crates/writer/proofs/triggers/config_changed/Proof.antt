@@ -4,8 +4,8 @@ use Rattle.writer.proofs.MadeLaws.{config_changed-made}
 use Rattle.writer.proofs.triggers.config_changed.Statement.{statement}
 use Rattle.writer.proofs.triggers.config_changed.Tie as tie
 
-pub config-changed-spec : {M : Type 1} → statement M
-config-changed-spec =
+pub config_changed_spec : {M : Type 1} → statement M
+config_changed_spec =
     tie.close
     (tie.spec
     (λ c. search rules)

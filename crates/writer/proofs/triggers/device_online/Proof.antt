@@ -4,8 +4,8 @@ use Rattle.writer.proofs.MadeLaws.{device_online-made}
 use Rattle.writer.proofs.triggers.device_online.Statement.{statement}
 use Rattle.writer.proofs.triggers.device_online.Tie as tie
 
-pub device-online-spec : {M : Type 1} → statement M
-device-online-spec =
+pub device_online_spec : {M : Type 1} → statement M
+device_online_spec =
     tie.close
     (tie.spec
     (λ c. search rules)

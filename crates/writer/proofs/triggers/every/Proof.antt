@@ -4,8 +4,8 @@ use Rattle.writer.proofs.MadeLaws.{every_made}
 use Rattle.writer.proofs.triggers.every.Statement.{statement}
 use Rattle.writer.proofs.triggers.every.Tie as tie
 
-pub every-spec : {M : Type 1} → statement M
-every-spec =
+pub every_spec : {M : Type 1} → statement M
+every_spec =
     tie.close
     (tie.spec
     (λ c. search rules)

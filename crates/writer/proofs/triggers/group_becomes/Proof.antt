@@ -4,8 +4,8 @@ use Rattle.writer.proofs.MadeLaws.{group_becomes-made}
 use Rattle.writer.proofs.triggers.group_becomes.Statement.{statement}
 use Rattle.writer.proofs.triggers.group_becomes.Tie as tie
 
-pub group-becomes-spec : {M : Type 1} → statement M
-group-becomes-spec =
+pub group_becomes_spec : {M : Type 1} → statement M
+group_becomes_spec =
     tie.close
     (tie.spec
     (λ c. search rules)

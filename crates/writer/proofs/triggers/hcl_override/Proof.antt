@@ -4,8 +4,8 @@ use Rattle.writer.proofs.MadeLaws.{hcl_override-made}
 use Rattle.writer.proofs.triggers.hcl_override.Statement.{statement}
 use Rattle.writer.proofs.triggers.hcl_override.Tie as tie
 
-pub hcl-override-spec : {M : Type 1} → statement M
-hcl-override-spec =
+pub hcl_override_spec : {M : Type 1} → statement M
+hcl_override_spec =
     tie.close
     (tie.spec
     (λ c. search rules)

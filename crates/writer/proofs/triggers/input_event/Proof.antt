@@ -4,8 +4,8 @@ use Rattle.writer.proofs.MadeLaws.{input_event-made}
 use Rattle.writer.proofs.triggers.input_event.Statement.{statement}
 use Rattle.writer.proofs.triggers.input_event.Tie as tie
 
-pub input-event-spec : {M : Type 1} → statement M
-input-event-spec =
+pub input_event_spec : {M : Type 1} → statement M
+input_event_spec =
     tie.close
     (tie.spec
     (λ c. search rules)

@@ -4,8 +4,8 @@ use Rattle.writer.proofs.MadeLaws.{input_light-made}
 use Rattle.writer.proofs.triggers.input_light.Statement.{statement}
 use Rattle.writer.proofs.triggers.input_light.Tie as tie
 
-pub input-light-spec : {M : Type 1} → statement M
-input-light-spec =
+pub input_light_spec : {M : Type 1} → statement M
+input_light_spec =
     tie.close
     (tie.spec
     (λ c κs. let a = c.before.before.args in fits-1 (input_light-made a.primary a.r a.way a.light) _ _ c.before.before.requires)

@@ -4,8 +4,8 @@ use Rattle.writer.proofs.MadeLaws.{input_occupancy-made}
 use Rattle.writer.proofs.triggers.input_occupancy.Statement.{statement}
 use Rattle.writer.proofs.triggers.input_occupancy.Tie as tie
 
-pub input-occupancy-spec : {M : Type 1} → statement M
-input-occupancy-spec =
+pub input_occupancy_spec : {M : Type 1} → statement M
+input_occupancy_spec =
     tie.close
     (tie.spec
     (λ c κs. let a = c.before.before.args in fits-1 (input_occupancy-made a.primary a.r a.state) _ _ c.before.before.requires)

@@ -4,8 +4,8 @@ use Rattle.writer.proofs.MadeLaws.{input_position-made}
 use Rattle.writer.proofs.triggers.input_position.Statement.{statement}
 use Rattle.writer.proofs.triggers.input_position.Tie as tie
 
-pub input-position-spec : {M : Type 1} → statement M
-input-position-spec =
+pub input_position_spec : {M : Type 1} → statement M
+input_position_spec =
     tie.close
     (tie.spec
     (λ c κs. let a = c.before.before.args in fits-1 (input_position-made a.primary a.r) _ _ c.before.before.requires)

@@ -4,8 +4,8 @@ use Rattle.writer.proofs.MadeLaws.{lamp_level-made}
 use Rattle.writer.proofs.triggers.lamp_level.Statement.{statement}
 use Rattle.writer.proofs.triggers.lamp_level.Tie as tie
 
-pub lamp-level-spec : {M : Type 1} → statement M
-lamp-level-spec =
+pub lamp_level_spec : {M : Type 1} → statement M
+lamp_level_spec =
     tie.close
     (tie.spec
     (λ c. search rules)

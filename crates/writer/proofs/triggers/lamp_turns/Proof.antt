@@ -4,8 +4,8 @@ use Rattle.writer.proofs.MadeLaws.{lamp_turns-made}
 use Rattle.writer.proofs.triggers.lamp_turns.Statement.{statement}
 use Rattle.writer.proofs.triggers.lamp_turns.Tie as tie
 
-pub lamp-turns-spec : {M : Type 1} → statement M
-lamp-turns-spec =
+pub lamp_turns_spec : {M : Type 1} → statement M
+lamp_turns_spec =
     tie.close
     (tie.spec
     (λ c. search rules)

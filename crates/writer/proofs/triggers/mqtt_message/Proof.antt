@@ -4,8 +4,8 @@ use Rattle.writer.proofs.MadeLaws.{mqtt_message-made}
 use Rattle.writer.proofs.triggers.mqtt_message.Statement.{statement}
 use Rattle.writer.proofs.triggers.mqtt_message.Tie as tie
 
-pub mqtt-message-spec : {M : Type 1} → statement M
-mqtt-message-spec =
+pub mqtt_message_spec : {M : Type 1} → statement M
+mqtt_message_spec =
     tie.close
     (tie.spec
     (λ c. search rules)

@@ -4,8 +4,8 @@ use Rattle.writer.proofs.MadeLaws.{power_cycled-made}
 use Rattle.writer.proofs.triggers.power_cycled.Statement.{statement}
 use Rattle.writer.proofs.triggers.power_cycled.Tie as tie
 
-pub power-cycled-spec : {M : Type 1} → statement M
-power-cycled-spec =
+pub power_cycled_spec : {M : Type 1} → statement M
+power_cycled_spec =
     tie.close
     (tie.spec
     (λ c. search rules)

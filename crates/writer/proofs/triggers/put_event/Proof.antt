@@ -8,9 +8,9 @@ use Rattle.spelling.proofs.FormLaws.{of_form}
 use Rattle.writer.proofs.triggers.put_event.Statement.{statement}
 use Rattle.writer.proofs.triggers.put_event.Tie as tie
 
-pub put-event-spec : {M : Type 1} → statement M
+pub put_event_spec : {M : Type 1} → statement M
 unfolding further spelled event_pieces split
-put-event-spec =
+put_event_spec =
     tie.close
     (tie.spec
     (λ c. search rules)

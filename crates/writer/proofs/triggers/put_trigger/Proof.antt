@@ -14,9 +14,9 @@ use Rattle.writer.proofs.MadeLaws.{trigger-held}
 use Rattle.writer.proofs.triggers.put_trigger.Statement.{statement}
 use Rattle.writer.proofs.triggers.put_trigger.Tie as tie
 
-pub put-trigger-spec : {M : Type 1} → statement M
+pub put_trigger_spec : {M : Type 1} → statement M
 unfolding further spelled trigger_pieces split
-put-trigger-spec =
+put_trigger_spec =
     tie.close
     (tie.spec
     (λ c. search rules)

@@ -4,8 +4,8 @@ use Rattle.writer.proofs.MadeLaws.{raw_event-made}
 use Rattle.writer.proofs.triggers.raw_event.Statement.{statement}
 use Rattle.writer.proofs.triggers.raw_event.Tie as tie
 
-pub raw-event-spec : {M : Type 1} → statement M
-raw-event-spec =
+pub raw_event_spec : {M : Type 1} → statement M
+raw_event_spec =
     tie.close
     (tie.spec
     (λ c. search rules)

@@ -4,8 +4,8 @@ use Rattle.writer.proofs.MadeLaws.{scene_recalled-made}
 use Rattle.writer.proofs.triggers.scene_recalled.Statement.{statement}
 use Rattle.writer.proofs.triggers.scene_recalled.Tie as tie
 
-pub scene-recalled-spec : {M : Type 1} → statement M
-scene-recalled-spec =
+pub scene_recalled_spec : {M : Type 1} → statement M
+scene_recalled_spec =
     tie.close
     (tie.spec
     (λ c. search rules)

@@ -4,8 +4,8 @@ use Rattle.writer.proofs.MadeLaws.{event_reading-made}
 use Rattle.writer.proofs.values.event_reading.Statement.{statement}
 use Rattle.writer.proofs.values.event_reading.Tie as tie
 
-pub event-reading-spec : {M : Type 1} → statement M
-event-reading-spec =
+pub event_reading_spec : {M : Type 1} → statement M
+event_reading_spec =
     tie.close
     (tie.spec
     (λ c. search rules)

@@ -4,8 +4,8 @@ use Rattle.writer.proofs.MadeLaws.{group_reading-made}
 use Rattle.writer.proofs.values.group_reading.Statement.{statement}
 use Rattle.writer.proofs.values.group_reading.Tie as tie
 
-pub group-reading-spec : {M : Type 1} → statement M
-group-reading-spec =
+pub group_reading_spec : {M : Type 1} → statement M
+group_reading_spec =
     tie.close
     (tie.spec
     (λ c. search rules)

@@ -4,8 +4,8 @@ use Rattle.writer.proofs.MadeLaws.{input_reading-made}
 use Rattle.writer.proofs.values.input_reading.Statement.{statement}
 use Rattle.writer.proofs.values.input_reading.Tie as tie
 
-pub input-reading-spec : {M : Type 1} → statement M
-input-reading-spec =
+pub input_reading_spec : {M : Type 1} → statement M
+input_reading_spec =
     tie.close
     (tie.spec
     (λ c κs. let a = c.before.before.args in fits-1 (input_reading-made a.primary a.r a.property) _ _ c.before.before.requires)

@@ -4,8 +4,8 @@ use Rattle.writer.proofs.MadeLaws.{lamp_reading-made}
 use Rattle.writer.proofs.values.lamp_reading.Statement.{statement}
 use Rattle.writer.proofs.values.lamp_reading.Tie as tie
 
-pub lamp-reading-spec : {M : Type 1} → statement M
-lamp-reading-spec =
+pub lamp_reading_spec : {M : Type 1} → statement M
+lamp_reading_spec =
     tie.close
     (tie.spec
     (λ c. search rules)

@@ -7,9 +7,9 @@ use Rattle.spelling.proofs.FormLaws.{of_form}
 use Rattle.writer.proofs.values.put_operand.Statement.{statement}
 use Rattle.writer.proofs.values.put_operand.Tie as tie
 
-pub put-operand-spec : {M : Type 1} → statement M
+pub put_operand_spec : {M : Type 1} → statement M
 unfolding operand_pieces
-put-operand-spec =
+put_operand_spec =
     tie.close
     (tie.spec
     (λ c. search rules)

@@ -7,9 +7,9 @@ use Rattle.spelling.proofs.FormLaws.{of_form}
 use Rattle.writer.proofs.values.put_reading.Statement.{statement}
 use Rattle.writer.proofs.values.put_reading.Tie as tie
 
-pub put-reading-spec : {M : Type 1} → statement M
+pub put_reading_spec : {M : Type 1} → statement M
 unfolding reading_pieces
-put-reading-spec =
+put_reading_spec =
     tie.close
     (tie.spec
     (λ c. search rules)

@@ -11,9 +11,9 @@ use Rattle.spelling.proofs.FormLaws.{of_form}
 use Rattle.writer.proofs.values.put_value.Statement.{statement}
 use Rattle.writer.proofs.values.put_value.Tie as tie
 
-pub put-value-spec : {M : Type 1} → statement M
+pub put_value_spec : {M : Type 1} → statement M
 unfolding value_pieces
-put-value-spec =
+put_value_spec =
     tie.close
     (tie.spec
     (λ c. search rules)

@@ -4,8 +4,8 @@ use Rattle.writer.proofs.MadeLaws.{reads_made}
 use Rattle.writer.proofs.values.reads.Statement.{statement}
 use Rattle.writer.proofs.values.reads.Tie as tie
 
-pub reads-spec : {M : Type 1} → statement M
-reads-spec =
+pub reads_spec : {M : Type 1} → statement M
+reads_spec =
     tie.close
     (tie.spec
     (λ c κs. let a = c.before.before.before.args in fits-1 (reads_made a.primary a.text.now a.reading a.delta) _ _ c.before.before.before.requires)

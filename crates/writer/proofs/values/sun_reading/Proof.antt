@@ -4,8 +4,8 @@ use Rattle.writer.proofs.MadeLaws.{sun_reading-made}
 use Rattle.writer.proofs.values.sun_reading.Statement.{statement}
 use Rattle.writer.proofs.values.sun_reading.Tie as tie
 
-pub sun-reading-spec : {M : Type 1} → statement M
-sun-reading-spec =
+pub sun_reading_spec : {M : Type 1} → statement M
+sun_reading_spec =
     tie.close
     (tie.spec
     (λ c. search rules)

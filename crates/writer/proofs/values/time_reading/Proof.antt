@@ -4,8 +4,8 @@ use Rattle.writer.proofs.MadeLaws.{time_reading-made}
 use Rattle.writer.proofs.values.time_reading.Statement.{statement}
 use Rattle.writer.proofs.values.time_reading.Tie as tie
 
-pub time-reading-spec : {M : Type 1} → statement M
-time-reading-spec =
+pub time_reading_spec : {M : Type 1} → statement M
+time_reading_spec =
     tie.close
     (tie.spec
     (λ c. search rules)

@@ -4,8 +4,8 @@ use Rattle.writer.proofs.MadeLaws.{var_reading-made}
 use Rattle.writer.proofs.values.var_reading.Statement.{statement}
 use Rattle.writer.proofs.values.var_reading.Tie as tie
 
-pub var-reading-spec : {M : Type 1} → statement M
-var-reading-spec =
+pub var_reading_spec : {M : Type 1} → statement M
+var_reading_spec =
     tie.close
     (tie.spec
     (λ c. search rules)

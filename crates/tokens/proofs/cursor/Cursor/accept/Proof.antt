@@ -4,8 +4,8 @@ use Rattle.tokens.proofs.CursorLaws.{accepted-kind}
 use Rattle.tokens.proofs.cursor.Cursor.accept.Statement.{statement}
 use Rattle.tokens.proofs.cursor.Cursor.accept.Tie as tie
 
-pub accept-spec : {M : Type 1} → statement M
-accept-spec =
+pub accept_spec : {M : Type 1} → statement M
+accept_spec =
     tie.close
     (tie.spec
     (λ c κs. search rules)

@@ -4,8 +4,8 @@ use Rattle.tokens.proofs.CursorLaws.{accepted-word}
 use Rattle.tokens.proofs.cursor.Cursor.accept_kw.Statement.{statement}
 use Rattle.tokens.proofs.cursor.Cursor.accept_kw.Tie as tie
 
-pub accept-kw-spec : {M : Type 1} → statement M
-accept-kw-spec =
+pub accept_kw_spec : {M : Type 1} → statement M
+accept_kw_spec =
     tie.close
     (tie.spec
     (λ c κs. search rules)

@@ -6,8 +6,8 @@ use Rattle.tokens.proofs.CursorLaws.{stays, grows}
 use Rattle.tokens.proofs.cursor.Cursor.advance.Statement.{statement}
 use Rattle.tokens.proofs.cursor.Cursor.advance.Tie as tie
 
-pub advance-spec : {M : Type 1} → statement M
-advance-spec =
+pub advance_spec : {M : Type 1} → statement M
+advance_spec =
     tie.close
     (tie.spec
     (λ c κs. search rules)

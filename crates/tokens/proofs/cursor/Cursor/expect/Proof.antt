@@ -5,9 +5,9 @@ use Rattle.tokens.proofs.CursorLaws.{taken-kind}
 use Rattle.tokens.proofs.cursor.Cursor.expect.Statement.{statement}
 use Rattle.tokens.proofs.cursor.Cursor.expect.Tie as tie
 
-pub expect-spec : {M : Type 1} → statement M
+pub expect_spec : {M : Type 1} → statement M
 unfolding take_kind
-expect-spec =
+expect_spec =
     tie.close
     (tie.spec
     (λ c κs. search rules)

@@ -12,9 +12,9 @@ use Rattle.tokens.proofs.cursor.Cursor.expect_choice.Tie as tie
 by_bytes : (list : List ℕ) (number i j : ℕ) {b w : List ℕ} → b ≡ w → choice_by list number i j b ≡ choice_by list number i j w
 by_bytes list number i j e = ap (choice_by list number i j) e
 
-pub expect-choice-spec : {M : Type 1} → statement M
+pub expect_choice_spec : {M : Type 1} → statement M
 unfolding choice_at
-expect-choice-spec =
+expect_choice_spec =
     tie.close
     (tie.spec
     (λ c κs. search rules)

@@ -34,9 +34,9 @@ module _ (t : ℕ → Tok) (s : List ℕ) (i : ℕ) {end : ℕ} (e : end ≡ fir
   no : {A : Type 0} (a b : A) {x : A} → r ≡ false → x ≡ b → x ≡ pick (is_word t (head_of (words_in s)) i) a b
   no a b h g = told-no _ a b test h g
 
-pub expect-either-spec : {M : Type 1} → statement M
+pub expect_either_spec : {M : Type 1} → statement M
 unfolding either_at
-expect-either-spec =
+expect_either_spec =
     tie.close
     (tie.spec
     (λ c κs. search rules)

@@ -4,9 +4,9 @@ use Rattle.tokens.proofs.Chain.{chain}
 use Rattle.tokens.proofs.cursor.Cursor.expect_int_in.Statement.{statement}
 use Rattle.tokens.proofs.cursor.Cursor.expect_int_in.Tie as tie
 
-pub expect-int-in-spec : {M : Type 1} → statement M
+pub expect_int_in_spec : {M : Type 1} → statement M
 unfolding take_in
-expect-int-in-spec =
+expect_int_in_spec =
     tie.close
     (tie.spec
     (λ c κs. search rules)

@@ -5,9 +5,9 @@ use Rattle.tokens.proofs.CursorLaws.{taken_word}
 use Rattle.tokens.proofs.cursor.Cursor.expect_kw.Statement.{statement}
 use Rattle.tokens.proofs.cursor.Cursor.expect_kw.Tie as tie
 
-pub expect-kw-spec : {M : Type 1} → statement M
+pub expect_kw_spec : {M : Type 1} → statement M
 unfolding take_word
-expect-kw-spec =
+expect_kw_spec =
     tie.close
     (tie.spec
     (λ c κs. search rules)

@@ -76,8 +76,8 @@ begins : (t : ℕ → Tok) (list : List ℕ) (i : ℕ) → take_words t (split 0
 unfolding phrase_at words_in
 begins t list i = refl
 
-pub expect-phrase-spec : {M : Type 1} → statement M
-expect-phrase-spec =
+pub expect_phrase_spec : {M : Type 1} → statement M
+expect_phrase_spec =
     tie.close
     (tie.spec
     invariant-loop

@@ -4,9 +4,9 @@ use Rattle.tokens.proofs.Chain.{chain}
 use Rattle.tokens.proofs.cursor.Cursor.expect_phrase_choice.Statement.{statement}
 use Rattle.tokens.proofs.cursor.Cursor.expect_phrase_choice.Tie as tie
 
-pub expect-phrase-choice-spec : {M : Type 1} → statement M
+pub expect_phrase_choice_spec : {M : Type 1} → statement M
 unfolding phrase_choice
-expect-phrase-choice-spec =
+expect_phrase_choice_spec =
     tie.close
     (tie.spec
     (λ c κs. search rules)

@@ -4,9 +4,9 @@ use Rattle.tokens.proofs.Chain.{chain}
 use Rattle.tokens.proofs.cursor.Cursor.expect_point_choice.Statement.{statement}
 use Rattle.tokens.proofs.cursor.Cursor.expect_point_choice.Tie as tie
 
-pub expect-point-choice-spec : {M : Type 1} → statement M
+pub expect_point_choice_spec : {M : Type 1} → statement M
 unfolding point_choice
-expect-point-choice-spec =
+expect_point_choice_spec =
     tie.close
     (tie.spec
     (λ c κs. search rules)

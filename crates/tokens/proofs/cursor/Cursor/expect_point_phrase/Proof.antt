@@ -4,9 +4,9 @@ use Rattle.tokens.proofs.Chain.{chain}
 use Rattle.tokens.proofs.cursor.Cursor.expect_point_phrase.Statement.{statement}
 use Rattle.tokens.proofs.cursor.Cursor.expect_point_phrase.Tie as tie
 
-pub expect-point-phrase-spec : {M : Type 1} → statement M
+pub expect_point_phrase_spec : {M : Type 1} → statement M
 unfolding point_phrase
-expect-point-phrase-spec =
+expect_point_phrase_spec =
     tie.close
     (tie.spec
     (λ c κs. search rules)

@@ -4,9 +4,9 @@ use Rattle.tokens.proofs.CursorLaws.{kind-none, kind-some}
 use Rattle.tokens.proofs.cursor.Cursor.peek_is.Statement.{statement}
 use Rattle.tokens.proofs.cursor.Cursor.peek_is.Tie as tie
 
-pub peek-is-spec : {M : Type 1} → statement M
+pub peek_is_spec : {M : Type 1} → statement M
 unfolding tokens
-peek-is-spec =
+peek_is_spec =
     tie.close
     (tie.spec
     (λ c κs. search rules)

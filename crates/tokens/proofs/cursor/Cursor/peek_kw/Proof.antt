@@ -4,9 +4,9 @@ use Rattle.tokens.proofs.CursorLaws.{word_none, word_same}
 use Rattle.tokens.proofs.cursor.Cursor.peek_kw.Statement.{statement}
 use Rattle.tokens.proofs.cursor.Cursor.peek_kw.Tie as tie
 
-pub peek-kw-spec : {M : Type 1} → statement M
+pub peek_kw_spec : {M : Type 1} → statement M
 unfolding tokens
-peek-kw-spec =
+peek_kw_spec =
     tie.close
     (tie.spec
     (λ c κs. search rules)

@@ -5,8 +5,8 @@ use Rattle.tokens.proofs.CursorLaws.{no_kind_lem}
 use Rattle.tokens.proofs.cursor.Cursor.peek_second.Statement.{statement}
 use Rattle.tokens.proofs.cursor.Cursor.peek_second.Tie as tie
 
-pub peek-second-spec : {M : Type 1} → statement M
-peek-second-spec =
+pub peek_second_spec : {M : Type 1} → statement M
+peek_second_spec =
     tie.close
     (tie.spec
     (λ c κs. search rules)

@@ -5,11 +5,10 @@ use native.Mathlib.Omega.{arith}
 use native.Mathlib.Nat.{add_assoc}
 use lib.ListN.{length, get_or}
 use borrow.Author.Rules.{rules}
-use Rattle.bytes.specs.Bytes.{index_of, slice}
+use Rattle.text.specs.Find.{index_of}
 use Rattle.text.specs.Find.{first_at}
 use Rattle.text.proofs.FindLaws.{first_past, first-here, first_next, first_found}
-use Rattle.text.proofs.find.find.Statement.{statement}
-use Rattle.text.proofs.find.find.Tie as tie
+use Rattle.text.proofs.find.find.Goals as goal
 
 -- b is first found at r, looked for from i on, and eight more bytes are there
 module _ (b : ℕ) (s : List ℕ) (i : ℕ) {r : ℕ} (inv : first_at b s i ≡ r) (room : 8 ≤ length s - i) where
@@ -73,53 +72,38 @@ module _ (b : ℕ) (s : List ℕ) (i : ℕ) {r : ℕ} (inv : first_at b s i ≡ 
 last : (b : ℕ) (s : List ℕ) (i : ℕ) {r e : ℕ} → first_at b s i ≡ e → i ≤ length s → r ≡ i + index_of b (slice i (length s) s) → r ≡ e
 last b s i inv h e = first_found b s i h e ∙ inv
 
-abbrev invariant-loop : tie.invariant-loop
-invariant-loop s from b len i₀ i = (first_at b s i ≡ first_at b s from) × (i ≤ length s)
+pub returns-then-len-from : goal.returns-then-len-from
+returns-then-len-from c = search (rules, first_past)
 
-abbrev decreases-loop : tie.decreases-loop
-decreases-loop s from b len i₀ i = length s - i
+pub loop-i-init : goal.loop-i-init
+loop-i-init c = (refl, search rules)
 
-pub find_spec : {M : Type 1} → statement M
-find_spec =
-    tie.close
-    (tie.spec
-    invariant-loop
-    decreases-loop
-    (λ c. search (rules, first_past))
-    (λ c. (refl, search rules))
-    (λ c. search rules)
-    (λ c. search rules)
-    (λ c. search (rules, first))
-    (λ c. search rules)
-    (λ c. search rules)
-    (λ c. search rules)
-    (λ c. search (rules, second))
-    (λ c. search rules)
-    (λ c. search rules)
-    (λ c. search rules)
-    (λ c. search (rules, third))
-    (λ c. search rules)
-    (λ c. search rules)
-    (λ c. search rules)
-    (λ c. search (rules, fourth))
-    (λ c. search rules)
-    (λ c. search rules)
-    (λ c. search rules)
-    (λ c. search (rules, fifth))
-    (λ c. search rules)
-    (λ c. search rules)
-    (λ c. search rules)
-    (λ c. search (rules, sixth))
-    (λ c. search rules)
-    (λ c. search rules)
-    (λ c. search rules)
-    (λ c. search (rules, seventh))
-    (λ c. search rules)
-    (λ c. search rules)
-    (λ c. search rules)
-    (λ c. search (rules, eighth))
-    (λ c. search rules)
-    (λ c. search rules)
-    (λ c. (search (rules, past-8), search rules))
-    (λ c κs. search rules)
-    (λ c. search (rules, last)))
+pub returns-then-s-i : goal.returns-then-s-i
+returns-then-s-i c = search (rules, first)
+
+pub returns-then-s-i-2 : goal.returns-then-s-i-2
+returns-then-s-i-2 c = search (rules, second)
+
+pub returns-then-s-i-3 : goal.returns-then-s-i-3
+returns-then-s-i-3 c = search (rules, third)
+
+pub returns-then-s-i-4 : goal.returns-then-s-i-4
+returns-then-s-i-4 c = search (rules, fourth)
+
+pub returns-then-s-i-5 : goal.returns-then-s-i-5
+returns-then-s-i-5 c = search (rules, fifth)
+
+pub returns-then-s-i-6 : goal.returns-then-s-i-6
+returns-then-s-i-6 c = search (rules, sixth)
+
+pub returns-then-s-i-7 : goal.returns-then-s-i-7
+returns-then-s-i-7 c = search (rules, seventh)
+
+pub returns-then-s-i-8 : goal.returns-then-s-i-8
+returns-then-s-i-8 c = search (rules, eighth)
+
+pub loop-i-preserved : goal.loop-i-preserved
+loop-i-preserved c = (search (rules, past-8), search rules)
+
+pub returns : goal.returns
+returns c = search (rules, last)

@@ -12,15 +12,7 @@ use Rattle.text.proofs.Utf8Laws.{decode-end, decode-byte}
 use Rattle.text.proofs.CharLaws.{char-inside, chars-char, chars-bad, chars-end}
 use Rattle.text.specs.Block.{Row}
 use Rattle.text.proofs.BlockLaws.{over-row}
-use Rattle.text.proofs.utf8.row_end.Statement.{statement}
-use Rattle.text.proofs.utf8.row_end.Tie as tie
-
--- the row from here ends where the row from the start does
-abbrev invariant-loop : tie.invariant-loop
-invariant-loop s at₀ at = row_end at (chars s at) ≡ row_end 0 (chars s 0)
-
-abbrev decreases-loop : tie.decreases-loop
-decreases-loop s at₀ at = length s - at
+use Rattle.text.proofs.utf8.row_end.Goals as goal
 
 -- i: the row from here ends at e
 module _ (s : List ℕ) (at : ℕ) {e : ℕ} (i : row_end at (chars s at) ≡ e) where
@@ -61,25 +53,23 @@ less-left s at {c = c} {n = n} d m l =
     let h = char-inside s at c n (sym d ∙ m) in
     omega arith
 
-pub row-end-spec : {M : Type 1} → statement M
-row-end-spec =
-    tie.close
-    (tie.spec
-    invariant-loop
-    decreases-loop
-    (λ c κs. search rules)
-    (λ c. row-ascii _ _ _ c.ascii-blocks.ensures refl)
-    (λ c. search rules)
-    (λ c. search rules)
-    (λ c. search rules)
-    (λ c. search (rules, row-byte))
-    (λ c κs. search rules)
-    (λ c. search rules)
-    (λ c κs. search rules)
-    (λ c. search (rules, less-left))
-    (λ c. row-ascii _ _ _ c.ascii-blocks2.ensures (search (rules, row_next)))
-    (λ c. search rules)
-    (λ c. row-bad _ _ c.before.before.before.before.before.before.loop.invariant c.before.before.decode.ensures.0 c.enum_told.given.1)
-    (λ c. search rules)
-    (λ c. row-end _ _ c.before.before.before.before.before.before.loop.invariant c.before.before.decode.ensures.0 c.enum-told2.given.1)
-    (λ c. search (rules, row-past)))
+pub loop-at-init : goal.loop-at-init
+loop-at-init c = row-ascii _ _ _ c.ascii_blocks-at.ensures refl
+
+pub loop-at-preserved-then-s-at-lt128 : goal.loop-at-preserved-then-s-at-lt128
+loop-at-preserved-then-s-at-lt128 c = search (rules, row-byte)
+
+pub loop-at-smaller : goal.loop-at-smaller
+loop-at-smaller c = search (rules, less-left)
+
+pub loop-at-preserved : goal.loop-at-preserved
+loop-at-preserved c = row-ascii _ _ _ c.ascii_blocks-at-in-Char.ensures (search (rules, row_next))
+
+pub returns-in-Bad : goal.returns-in-Bad
+returns-in-Bad c = row-bad _ _ c.loop-at.invariant c.decode-d.ensures.value c.in-Bad.is
+
+pub returns-in-End : goal.returns-in-End
+returns-in-End c = row-end _ _ c.loop-at.invariant c.decode-d.ensures.value c.in-End.is
+
+pub returns : goal.returns
+returns c = search (rules, row-past)

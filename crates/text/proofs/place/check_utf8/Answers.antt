@@ -11,8 +11,7 @@ use Rattle.text.specs.declared.place.Checked.TheVariants.{WellFormed, IllFormed}
 use Rattle.text.proofs.Tests.{eq_yes, eq_no}
 use Rattle.text.proofs.StepLaws.{walk-row}
 use Rattle.text.proofs.PlaceRules.{judged}
-use Rattle.text.proofs.place.check_utf8.Statement.{statement}
-use Rattle.text.proofs.place.check_utf8.Tie as tie
+use Rattle.text.proofs.place.check_utf8.Goals as goal
 
 answered : (s : List ℕ) {r : Checked} → r ≡ check_of s → (r ≡ check_of s) × Judged s r
 answered s e = (e, subst (Judged s) (sym e) (judged s))
@@ -30,12 +29,8 @@ broken s {n} {p} {q} e h b w =
     let k : q ≡ walked start (chars s 0) = w ∙ ap (λ (m : Place). walked m (chars s m.at)) b in
     answered s (rw k (eq_no _ _ _ _ (λ m. h (e ∙ sym (walk-row (chars s 0) start) ∙ m)) refl))
 
-pub check-utf8-spec : {M : Type 1} → statement M
-check-utf8-spec =
-    tie.close
-    (tie.spec
-    (λ c κs. search rules)
-    (λ c. whole _ c.before.row-end.ensures c.if1.true)
-    (λ c κs. search rules)
-    (λ c κs. search rules)
-    (λ c. broken _ c.before.before.before.row-end.ensures c.before.before.if1.false c.before.start.ensures c.walk.ensures))
+pub returns-then-row_end-s : goal.returns-then-row_end-s
+returns-then-row_end-s c = let both = whole _ c.row_end.ensures c.if-row_end-s.true in record { value = both.0; rules = both.1 }
+
+pub returns : goal.returns
+returns c = let both = broken _ c.row_end.ensures c.if-row_end-s.false c.start.ensures c.walk-p.ensures in record { value = both.0; rules = both.1 }
