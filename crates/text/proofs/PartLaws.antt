@@ -1,12 +1,14 @@
 -- Laws on parts of byte slices and their comparison.
-use mathlib.Core.Path.{◌≡◌, ◌∙◌, refl, subst, sym}
-use mathlib.Core.Bool.{Bool, true, false}
+use mathlib.Core.Path.{◌≡◌, ◌∙◌, refl, subst, sym, ap}
+use mathlib.Core.Bool.{Bool, true, false, ◌&&◌}
 use mathlib.Core.List.{List, [], ◌∷◌}
 use Prim.Native.Nat.{ℕ, ◌-◌, ◌≤◌}
 use native.Mathlib.Omega.{arith}
 use lib.ListN.{length, take, drop, length-drop, drop_of_length-le}
 use lib.Seq.{take_all, take-nil}
 use lib.Dec.{eqb}
+use lib.Pointwise.{pointwise}
+use Rattle.text.specs.Choice.{pick}
 use borrow.Author.Tests.{eq-eqb, eqb-true}
 use Rattle.text.specs.Part.{part_of, same_bytes}
 use Rattle.text.proofs.Tests.{both}
@@ -55,3 +57,15 @@ differ-by a b false e f = refl
 pub same_by : (a b : List ℕ) (r : Bool) → (r ≡ true → a ≡ b) → (a ≡ b → r ≡ true) → r ≡ same_bytes a b
 same_by a b true f g = sym (subst (λ (x : List ℕ). same_bytes a x ≡ true) (f refl) (same_refl a))
 same_by a b false f g = differ-by a b (same_bytes a b) refl g
+
+-- the test that std makes of two slices
+and-pick : (t u : Bool) → (t && u) ≡ pick t u false
+and-pick true u = refl
+and-pick false u = refl
+
+pub each_equal : (a b : List ℕ) → pointwise eqb a b ≡ same_bytes a b
+unfolding same_bytes
+each_equal [] [] = refl
+each_equal [] (y ∷ b) = refl
+each_equal (x ∷ a) [] = refl
+each_equal (x ∷ a) (y ∷ b) = and-pick (eqb x y) (pointwise eqb a b) ∙ ap (λ (u : Bool). pick (eqb x y) u false) (each_equal a b)

@@ -22,7 +22,7 @@ pub equal-parts : {a b : List ℕ} → a ≡ b → SameParts a b
 equal-parts e = record { long = ap length e; bytes = λ i h. ap (λ (l : List ℕ). get_or l i 0) e }
 
 -- the test says yes exactly for them
-compared : (a b : List ℕ) {r : Bool} → r ≡ same_bytes a b → SaysSame a b r
+pub compared : (a b : List ℕ) {r : Bool} → r ≡ same_bytes a b → SaysSame a b r
 compared a b e =
     record {
       yes = λ t. equal-parts (same-eq a b (sym e ∙ t));

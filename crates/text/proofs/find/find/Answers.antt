@@ -5,9 +5,8 @@ use native.Mathlib.Omega.{arith}
 use native.Mathlib.Nat.{add_assoc}
 use lib.ListN.{length, get_or}
 use borrow.Author.Rules.{rules}
-use Rattle.text.specs.Find.{index_of}
 use Rattle.text.specs.Find.{first_at}
-use Rattle.text.proofs.FindLaws.{first_past, first-here, first_next, first_found}
+use Rattle.text.proofs.FindLaws.{first_past, first-here, first_next}
 use Rattle.text.proofs.find.find.Goals as goal
 
 -- b is first found at r, looked for from i on, and eight more bytes are there
@@ -69,9 +68,6 @@ module _ (b : ℕ) (s : List ℕ) (i : ℕ) {r : ℕ} (inv : first_at b s i ≡ 
   past-8 : (get_or s i 0 ≡ b → ⊥) → (Here 1 → ⊥) → (Here 2 → ⊥) → (Here 3 → ⊥) → (Here 4 → ⊥) → (Here 5 → ⊥) → (Here 6 → ⊥) → (Here 7 → ⊥) → first_at b s (i + 8) ≡ r
   past-8 a d e f g h j m = past 7 (omega arith) (past-7 a d e f g h j) m
 
-last : (b : ℕ) (s : List ℕ) (i : ℕ) {r e : ℕ} → first_at b s i ≡ e → i ≤ length s → r ≡ i + index_of b (slice i (length s) s) → r ≡ e
-last b s i inv h e = first_found b s i h e ∙ inv
-
 pub returns-then-len-from : goal.returns-then-len-from
 returns-then-len-from c = search (rules, first_past)
 
@@ -106,4 +102,4 @@ pub loop-i-preserved : goal.loop-i-preserved
 loop-i-preserved c = (search (rules, past-8), search rules)
 
 pub returns : goal.returns
-returns c = search (rules, last)
+returns c = c.find_each.ensures ∙ c.loop-i.invariant.0

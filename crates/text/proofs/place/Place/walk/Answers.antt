@@ -1,7 +1,7 @@
 use mathlib.Core.Path.{◌∙◌, refl, sym}
 use Prim.Native.Nat.{◌-◌}
 use native.Mathlib.Omega.{arith}
-use Rattle.text.proofs.StepLaws.{step_stop, walk_step, walk_stop}
+use Rattle.text.proofs.StepLaws.{Stepped, step-next, step_stop, walk_step, walk_stop}
 use Rattle.text.proofs.place.Place.walk.Goals as goal
 use Rattle.text.proofs.place.Place.walk.Goals.{In-Next}
 
@@ -16,7 +16,7 @@ loop-place-smaller c = let t = stepped (goal.at.loop-place-smaller c).In-Next in
     omega arith
 
 pub loop-place-preserved : goal.loop-place-preserved
-loop-place-preserved c = c.loop-place.invariant ∙ walk_step (stepped c)
+loop-place-preserved c = c.loop-place.invariant ∙ walk_step (stepped (goal.at.loop-place-preserved c).In-Next)
 
 pub returns-in-Stop : goal.returns-in-Stop
 returns-in-Stop c = sym (c.loop-place.invariant ∙ walk_stop (step_stop _ _ (sym c.bump-step.ensures ∙ c.in-Stop.is)))
