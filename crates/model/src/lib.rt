@@ -1,4 +1,6 @@
 // The values that a rule is read as: references, time bounds, readings, triggers, conditions, and the answer of a call.
+#![tactic(auto)]
+
 pub mod limits;
 
 ghost use Rattle.std.specs.Prelude.{◌≡◌, []};

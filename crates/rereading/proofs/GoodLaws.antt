@@ -137,7 +137,7 @@ module _ (kind : ℕ) where
   good-sign =
       is-or OPEN Symbol.open_paren (is-or CLOSE Symbol.close_paren (is-or COMMA Symbol.comma (is-or POINT Symbol.dot
       (is-or POINTS Symbol.dot_dot (is-or ASSIGN Symbol.assign (is-or EQ Symbol.equal (is-or NE Symbol.unequal
-      (is-or GE Symbol.at_least_lem (is-or LE Symbol.at_most (is-or GT Symbol.greater (is-or LT Symbol.less
+      (is-or GE Symbol.at_least (is-or LE Symbol.at_most (is-or GT Symbol.greater (is-or LT Symbol.less
       (is-or PLUS Symbol.plus (is MINUS Symbol.minus)))))))))))))
 
 -- ---- pieces

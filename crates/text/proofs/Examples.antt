@@ -5,8 +5,7 @@ use Prim.Native.Nat.{ℕ, ◌+◌, ◌-◌}
 use Rattle.text.specs.Utf8.{codes, chars, chars_from, front, sized, sequence_length, two, three, four, is_tail, is_second}
 use Rattle.text.specs.White.{Range, white_space}
 use Rattle.text.specs.Place.{check_of, judge, walked, after, counted}
-use Rattle.text.specs.declared.place.Checked.{Checked}
-use Rattle.text.specs.declared.place.Checked.TheVariants.{WellFormed, IllFormed}
+use Rattle.text.specs.declared.place.Checked.TheVariants.{IllFormed}
 
 -- A, not identical to, Alpha, full stop
 section_7_first : codes (chars (0x41 ∷ 0xE2 ∷ 0x89 ∷ 0xA2 ∷ 0xCE ∷ 0x91 ∷ 0x2E ∷ []) 0) ≡ 0x0041 ∷ 0x2262 ∷ 0x0391 ∷ 0x002E ∷ []

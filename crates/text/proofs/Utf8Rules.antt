@@ -1,7 +1,7 @@
 -- The decoder of specs/Utf8.antt answers exactly as the rules of specs/Rfc3629.antt say: what they accept it decodes (complete), what
 -- it decodes they accept (sound), so it gives the one answer that they allow (stands, stands_one).
 use mathlib.Core.Path.{◌≡◌, ◌∙◌, refl, ap, sym}
-use mathlib.Core.Bool.{Bool, true, false, false≢true}
+use mathlib.Core.Bool.{Bool, true, false≢true}
 use Prim.Native.Nat.{ℕ, zero, suc, ◌+◌, ◌*◌, ◌%◌, ◌<◌, ◌≤◌}
 use native.Mathlib.Omega.{arith}
 use native.Mathlib.Decide.{dec_lt}

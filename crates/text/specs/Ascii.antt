@@ -1,5 +1,5 @@
 -- Classes of ASCII characters (document 01, "Tokens and places").
-use Rattle.std.specs.Prelude.{ℕ, Bool, true, false, eqb}
+use Rattle.std.specs.Prelude.{ℕ, Bool, true, eqb}
 use Rattle.text.specs.Choice.{pick, within}
 
 -- 0 to 9

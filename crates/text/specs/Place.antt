@@ -1,5 +1,5 @@
 -- Places in a text: line and column count characters from 1, and only LF starts a line (document 01, "Tokens and places").
-use Rattle.std.specs.Prelude.{ℕ, ◌+◌, ◌<◌, ◌≤◌, ◌≡◌, List, [], ◌∷◌, ◌++◌, length, ltb, eqb}
+use Rattle.std.specs.Prelude.{ℕ, ◌+◌, ◌<◌, ◌≤◌, ◌≡◌, List, [], ◌∷◌, length, ltb, eqb}
 use Rattle.text.specs.Choice.{pick}
 use Rattle.text.specs.Rfc3629.{Utf8Octets, Starts, StartsNone}
 use Rattle.text.specs.Utf8.{Character, chars}

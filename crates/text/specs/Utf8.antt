@@ -1,6 +1,6 @@
 -- Decoding UTF-8, as a function: the length from the lead byte (RFC 3629, section 3), then the limits of its ABNF (section 4).
 -- proofs/Utf8Rules.antt shows that it answers exactly as the rules of Rfc3629.antt say.
-use Rattle.std.specs.Prelude.{ℕ, zero, suc, ◌+◌, ◌-◌, ◌*◌, ◌%◌, List, [], ◌∷◌, map, Bool, true, false, length, get_or, drop, ltb, leb, eqb}
+use Rattle.std.specs.Prelude.{ℕ, zero, suc, ◌+◌, ◌-◌, ◌*◌, ◌%◌, List, [], ◌∷◌, map, Bool, get_or, drop, ltb, eqb}
 use Rattle.text.specs.Choice.{pick, within}
 use Rattle.text.specs.declared.utf8.Decoded.{Decoded}
 use Rattle.text.specs.declared.utf8.Decoded.TheVariants.{Char, Bad, End}

@@ -11,7 +11,7 @@ use Rattle.tokens.specs.Amount.{Amounts, most_ms, JudgedAmount, fine, long, exac
 use Rattle.tokens.specs.Duration.{bounded_ms, whole_ms, amount}
 use Rattle.tokens.specs.declared.duration.Amount.{Amount}
 use Rattle.tokens.specs.declared.duration.Amount.TheVariants.{Ms, Refused}
-use Rattle.tokens.proofs.PowerLaws.{ten-pos, ten-le}
+use Rattle.tokens.proofs.PowerLaws.{ten-pos}
 
 -- a product has no remainder, and its quotient is the other factor
 no-rest : (ms n t : ℕ) → 0 < t → ms * t ≡ n → n % t ≡ 0

@@ -273,18 +273,41 @@ buffer-records {l} {n} words e h =
     ap (λ (k : ℕ). take (k * record_size) (written_from 0 words l)) (sym (zero-add n)) ∙ records-from 0 words e (omega arith)
 
 -- kinds of tokens are above 0
+first-kind : (r : Record) (l : Lexing) → 1 ≤ r.kind → 1 ≤ kind_at (record_words (token r l)) 0
+unfolding record_words kind_at words_of
+first-kind r l some =
+    let w = first_word r (record_words l) 0 in
+    omega arith
+
+next-kind : (r : Record) (l : Lexing) (i : ℕ) → 1 ≤ kind_at (record_words l) i → 1 ≤ kind_at (record_words (token r l)) (suc i)
+unfolding record_words kind_at words_of
+next-kind r l i some =
+    let w = next_word r (record_words l) i 0 in
+    omega arith
+
+-- one token, and those behind it
+record Behind (l : Lexing) (n : ℕ) : Type 0 where
+  count : ℕ
+  is : n ≡ suc count
+  rest : Ended l count
+
+behind_one : {r : Record} {l : Lexing} {n : ℕ} → Ended (token r l) n → Behind l n
+behind_one (behind {count} e) = record { count = count; is = refl; rest = e }
+
+at_none : {p : Place} {n : ℕ} → Ended (ended p) n → n ≡ 0
+at_none at_end_rule = refl
+
 kinds-some : {s : List ℕ} {before : List Character} {l : Lexing} {n : ℕ} → Laid s before l → Ended l n → (i : ℕ) → i < n →
     1 ≤ kind_at (record_words l) i
-unfolding record_words kind_at words_of record_of
-kinds-some x at_end_rule i h = absurd (omega arith)
-kinds-some (Laid.next gap u rest t s c x) (behind {r} {l} e) zero h =
-    let w = first_word r (record_words l) 0 in
-    let some = kind-some s in
-    omega arith
-kinds-some (Laid.next gap u rest t s c x) (behind {r} {l} e) (suc i) h =
-    let w = next_word r (record_words l) i 0 in
-    let some = kinds-some x e i (omega arith) in
-    omega arith
+unfolding record_of
+kinds-some (Laid.end gap a b) e i h =
+    let z = at_none e in
+    absurd (omega arith)
+kinds-some (Laid.refusal gap c rest a b d) e i h = elim e [ ]
+kinds-some (Laid.next gap u rest t s c x) e zero h = first-kind _ _ (kind-some s)
+kinds-some {before = before} (Laid.next gap u rest t s c x) e (suc i) h =
+    let b = behind_one e in
+    next-kind _ _ i (kinds-some {before = before ++ (gap ++ u)} x b.rest i (omega (arith, b.is)))
 
 -- so kind 0 stands only past the tokens: forms that end at kind 0 use up all of them
 pub used-up : (text : List ℕ) {n : ℕ} → Ended (lex_text text) n → (i : ℕ) →

@@ -39,6 +39,8 @@ spelled (Shaped.whole_amount {ws} d g k) (Judged.duration s u a m) =
 spelled (Shaped.decimal_amount {ws} {fs} d g b k) (Judged.duration s u a m) =
     Spelled.duration
     (Duration.decimal (digits_of d (s.runs ws DigitRun.amount_whole)) (digits_of g (s.runs fs DigitRun.amount_fraction)) u a m)
+spelled (Shaped.unclosed a b c) x = elim x [ ]
+spelled (Shaped.nothing a b c d) x = elim x [ ]
 
 lexical : {shape : Shape} {number : ℕ} → Judged shape (refuse number) → Lexical number
 lexical Judged.nothing = Lexical.no_token_rule

@@ -23,3 +23,5 @@ pub mod FormerLaws
 pub mod DurationLaws
 pub mod HoldsLaws
 pub mod Pairs
+pub mod LexAllLaws
+pub mod ChoiceLaws

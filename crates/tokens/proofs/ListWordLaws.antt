@@ -5,14 +5,14 @@ use mathlib.Core.List.{List, [], ◌∷◌}
 use Prim.Native.Nat.{ℕ, ◌+◌, ◌-◌, ◌<◌, ◌≤◌}
 use native.Mathlib.Omega.{arith}
 use native.Mathlib.Nat.{add-zero}
-use lib.ListN.{length, get_or, take, drop, length-drop}
+use lib.ListN.{length, get_or, drop, length-drop}
 use lib.Seq.{length-take-le, get_or-take, get_or-drop, ext_get_or}
-use lib.Dec.{ltb, eqb}
+use lib.Dec.{eqb}
 use borrow.Author.Tests.{lt-ltb, eqb-true, eqb-false}
 use Rattle.text.specs.Choice.{pick}
 use Rattle.text.specs.Part.{part_of, same_bytes}
 use Rattle.text.specs.Find.{first_at}
-use Rattle.text.proofs.Tests.{pick_same, lt_no}
+use Rattle.text.proofs.Tests.{lt_no}
 use Rattle.text.proofs.PartLaws.{same_refl, same-eq}
 use Rattle.text.proofs.FindLaws.{first-within, first-from, first_past, first-here, first_next}
 use Rattle.tokens.specs.Phrase.{behind_word}

@@ -17,7 +17,7 @@ use Rattle.tokens.specs.Kind.{OPEN}
 use Rattle.tokens.specs.Rules.{All, Without, Stops, Run, run, Trivia, Trailing, Begins, begins, Symbol, NoLonger, LineEnd, EndsInteger, Shape, Shaped, value, UnitOf, DigitRun, most_run, Small, TenThousandths, most_decimal, Verdict, refuse, Judged}
 use Rattle.tokens.specs.Amount.{JudgedAmount, fine, long, exact}
 use Rattle.tokens.specs.Token.{single_kind, pair_kind}
-use Rattle.tokens.specs.Duration.{unit_of, amount}
+use Rattle.tokens.specs.Duration.{unit_of}
 use Rattle.tokens.specs.declared.duration.Amount.{Amount}
 use Rattle.tokens.proofs.AmountLaws.{amount-judged}
 
@@ -173,7 +173,7 @@ symbol-kind Symbol.dot_dot = omega arith
 symbol-kind Symbol.assign = omega arith
 symbol-kind Symbol.equal = omega arith
 symbol-kind Symbol.unequal = omega arith
-symbol-kind Symbol.at_least_lem = omega arith
+symbol-kind Symbol.at_least = omega arith
 symbol-kind Symbol.at_most = omega arith
 symbol-kind Symbol.greater = omega arith
 symbol-kind Symbol.less = omega arith
@@ -203,7 +203,7 @@ single-symbol c =
 equal-pair : (c : ℕ) →
     Symbolic (c ∷ 0x3D ∷ []) (pick (eqb c 0x3D) 15 (pick (eqb c 0x21) 16 (pick (eqb c 0x3E) 17 (pick (eqb c 0x3C) 18 0))))
 equal-pair c =
-    first-is c 0x3D Symbol.equal (first-is c 0x21 Symbol.unequal (first-is c 0x3E Symbol.at_least_lem
+    first-is c 0x3D Symbol.equal (first-is c 0x21 Symbol.unequal (first-is c 0x3E Symbol.at_least
     (first-is c 0x3C Symbol.at_most (no_symbol (c ∷ 0x3D ∷ [])))))
 
 pub pair-symbol : (c d : ℕ) → Symbolic (c ∷ d ∷ []) (pair_kind c d)
@@ -237,7 +237,7 @@ sign_of Symbol.dot_dot = pair (record { quote = refl; digit = refl; letter = ref
 sign_of Symbol.assign = single (record { quote = refl; digit = refl; letter = refl }) refl
 sign_of Symbol.equal = pair (record { quote = refl; digit = refl; letter = refl }) refl
 sign_of Symbol.unequal = pair (record { quote = refl; digit = refl; letter = refl }) refl
-sign_of Symbol.at_least_lem = pair (record { quote = refl; digit = refl; letter = refl }) refl
+sign_of Symbol.at_least = pair (record { quote = refl; digit = refl; letter = refl }) refl
 sign_of Symbol.at_most = pair (record { quote = refl; digit = refl; letter = refl }) refl
 sign_of Symbol.greater = single (record { quote = refl; digit = refl; letter = refl }) refl
 sign_of Symbol.less = single (record { quote = refl; digit = refl; letter = refl }) refl

@@ -60,9 +60,9 @@ pub record Front (s : List ℕ) (p : Place) (cs r : List ℕ) : Type 0 where
 
 pub front : {s : List ℕ} {p : Place} (cs r : List ℕ) → Left s p (cs ++ r) → Front s p cs r
 front {p} [] r h = record { to = p; reads = none; rest = h }
-front (c ∷ cs) r h =
+front {p = p} (c ∷ cs) r h =
     let a = ahead h in
-    let f = front cs r a.rest in
+    let f = front {p = a.next} cs r a.rest in
     record { to = f.to; reads = more a.step f.reads; rest = f.rest }
 
 -- a row that is read in two parts
@@ -142,15 +142,15 @@ grows v [] = omega arith
 grows v (c ∷ cs) = omega (arith, grows (v * 10 + (c - 0x30)) cs)
 
 -- a scan over digits gives the number that they write
-pub digits-row : (v : ℕ) {s : List ℕ} {p q : Place} {ds r : List ℕ} → Reads s p q ds → All is_digit ds → Left s q r → Stops is_digit r →
+pub digits-row : {s : List ℕ} (v : ℕ) {p q : Place} {ds r : List ℕ} → Reads s p q ds → All is_digit ds → Left s q r → Stops is_digit r →
     value_from v ds ≤ most_run → digits v p (chars s p.at) ≡ Number (value_from v ds) q
 unfolding value_from with_digit
-digits-row v {s} {p} none All.none l k m = digits_stop v p (chars s p.at) l.are k
+digits-row {s} v {p} none All.none l k m = digits_stop v p (chars s p.at) l.are k
 digits-row v (more h t) (All.more {c} {cs} a b) l k m =
     digits_step v h a (omega (arith, grows (with_digit v c) cs, m)) ∙ digits-row (with_digit v c) t b l k m
 
 -- or refuses it
-pub digits-large : (v : ℕ) {s : List ℕ} {p q : Place} {ds : List ℕ} → v ≤ most_run → Reads s p q ds → All is_digit ds → most_run < value_from v ds →
+pub digits-large : {s : List ℕ} (v : ℕ) {p q : Place} {ds : List ℕ} → v ≤ most_run → Reads s p q ds → All is_digit ds → most_run < value_from v ds →
     digits v p (chars s p.at) ≡ TooLarge
 unfolding value_from with_digit
 digits-large v e none All.none m = absurd (omega arith)
@@ -234,7 +234,7 @@ comment-row (more h t) (Without.more f w) = trivia-step 1 1 h (inside_mode f) re
 trivia-row : {s : List ℕ} {p q : Place} {gap : List ℕ} → Trivia gap → Reads s p q gap →
     trivia 0 p (chars s p.at) ≡ trivia 0 q (chars s q.at)
 trivia-row Trivia.none none = refl
-trivia-row (Trivia.white {c} w t) (more h r) = trivia-step 0 0 h (white_mode c w) refl ∙ trivia-row t r
+trivia-row (Trivia.white {c} w t) (more {n = n} h r) = trivia-step 0 0 h (white_mode c w) refl ∙ trivia-row {p = n} t r
 trivia-row (Trivia.comment {ds} {cs} w t) (more h r) =
     let x = halves ds (0x0A ∷ cs) r in
     let f = uncons x.two in

@@ -16,7 +16,7 @@ use Rattle.text.proofs.Tests.{picked, pick_same, both}
 use Rattle.text.proofs.StepLaws.{Stepped}
 use Rattle.tokens.specs.Kind.{WORD, STRING, INTEGER, TIME, DECIMAL, OPEN}
 use Rattle.tokens.specs.Scan.{quoted, digits}
-use Rattle.tokens.specs.Duration.{unit_of, amount}
+use Rattle.tokens.specs.Duration.{unit_of}
 use Rattle.tokens.specs.Amount.{JudgedAmount, fine, long, exact}
 use Rattle.tokens.specs.Token.{look, single_kind, pair_kind, single, punct, string, spanning, digits_in, time_by, time, decimal, amount_to, duration_by, duration, fraction_at, fraction, point, number_at, number, word, token_at}
 use Rattle.tokens.specs.Rules.{All, Without, Stops, Run, run, NoLonger, LineEnd, EndsInteger, Shape, Shaped, value_from, value, UnitOf, DigitRun, most_run, IsTime, TenThousandths, most_decimal, Verdict, worth, refuse, Judged, first_byte, end_byte}
@@ -517,3 +517,8 @@ token-only (Shaped.whole_amount d g k) j r l = whole-only d g k j r l
 token-only (Shaped.decimal_amount d g b k) j r l = part-only d g b k j r l
 token-only (Shaped.nothing {c} h d w m) Judged.nothing r l =
     nothing-only (record { quote = ne_eqb c 0x22 h; digit = d; letter = w }) m r l
+token-only (Shaped.word h a k) (Judged.large x y) r l = elim x [ ]
+token-only (Shaped.string a b) (Judged.large x y) r l = elim x [ ]
+token-only (Shaped.unclosed a b e) (Judged.large x y) r l = elim x [ ]
+token-only (Shaped.sign h m) (Judged.large x y) r l = elim x [ ]
+token-only (Shaped.nothing h d w m) (Judged.large x y) r l = elim x [ ]

@@ -1,5 +1,5 @@
 -- What tokens a text gives, and how that ends (document 01, questions 1, 2, 4 and 10 to 19).
-use Rattle.std.specs.Prelude.{ℕ, zero, suc, ◌+◌, List, [], ◌∷◌, length, ltb}
+use Rattle.std.specs.Prelude.{ℕ, zero, suc, ◌+◌, List, length, ltb}
 use Rattle.text.specs.Choice.{pick}
 use Rattle.text.specs.Utf8.{chars}
 use Rattle.text.specs.Place.{start, check_of}

@@ -1,11 +1,11 @@
 -- Fixed words, in a row or to choose from. A list of them is written as one text, in which a space parts one from the next.
-use Rattle.std.specs.Prelude.{ℕ, ◌+◌, List, [], ◌∷◌, Bool, true, false, length, ltb}
+use Rattle.std.specs.Prelude.{ℕ, ◌+◌, List, [], ◌∷◌, Bool, false, length, ltb}
 use Rattle.text.specs.Choice.{pick}
 use Rattle.text.specs.Part.{part_of, same_bytes}
 use Rattle.text.specs.Find.{first_at}
 use Rattle.text.specs.Split.{split}
 use Rattle.tokens.specs.Kind.{WORD, POINT}
-use Rattle.tokens.specs.Result.{Res, ok, no, bind, refuse}
+use Rattle.tokens.specs.Result.{Res, ok, bind, refuse}
 use Rattle.tokens.specs.Cursor.{Tok, is_word, take_kind, take_word}
 
 -- the words of a list

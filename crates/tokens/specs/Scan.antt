@@ -1,5 +1,5 @@
 -- Scans over characters: from a place and the characters from there on, the place where the scan ends.
-use Rattle.std.specs.Prelude.{ℕ, ◌+◌, ◌-◌, ◌*◌, List, [], ◌∷◌, Bool, true, false, ltb, eqb}
+use Rattle.std.specs.Prelude.{ℕ, ◌+◌, ◌-◌, ◌*◌, List, [], ◌∷◌, Bool, false, ltb, eqb}
 use Rattle.text.specs.Choice.{pick}
 use Rattle.text.specs.White.{is_white}
 use Rattle.text.specs.Utf8.{Character}

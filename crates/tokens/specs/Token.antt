@@ -1,5 +1,5 @@
 -- The token that begins at a place (document 01, questions 10 to 18, and "Tokens and places").
-use Rattle.std.specs.Prelude.{ℕ, ◌+◌, ◌-◌, ◌*◌, ◌^◌, List, Bool, true, false, ltb, eqb}
+use Rattle.std.specs.Prelude.{ℕ, ◌+◌, ◌-◌, ◌*◌, ◌^◌, List, ltb, eqb}
 use Rattle.text.specs.Choice.{pick}
 use Rattle.text.specs.Utf8.{chars}
 use Rattle.text.specs.Part.{part_of}

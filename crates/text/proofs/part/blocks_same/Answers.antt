@@ -1,5 +1,4 @@
 use mathlib.Core.Path.{refl}
-use Prim.Native.Nat.{◌-◌}
 use borrow.Author.Rules.{rules}
 use Rattle.text.proofs.SameLaws.{same-on, same-no, same_end}
 use Rattle.text.proofs.part.blocks_same.Goals as goal

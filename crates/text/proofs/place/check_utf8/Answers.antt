@@ -2,7 +2,6 @@ use mathlib.Core.Path.{◌≡◌, ◌∙◌, refl, ap, sym, subst}
 use mathlib.Core.List.{List}
 use Prim.Native.Nat.{ℕ}
 use lib.ListN.{length}
-use borrow.Author.Rules.{rules}
 use Rattle.text.specs.Utf8.{chars, row_end}
 use Rattle.text.specs.Place.{start, walked, judge, check_of, Judged}
 use Rattle.text.specs.declared.place.Place.{Place}

@@ -1,4 +1,3 @@
-use Prim.Native.Nat.{◌-◌}
 use Rattle.text.proofs.BlockLaws.{blocks}
 use Rattle.text.proofs.utf8.ascii_blocks.Goals as goal
 

@@ -1,5 +1,4 @@
 use borrow.Author.Rules.{rules}
-use Rattle.text.proofs.Tests.{steps}
 use Rattle.tokens.proofs.AmountLaws.{parts_whole, parts-rest}
 use Rattle.tokens.proofs.duration.with_parts.Statement.{statement}
 use Rattle.tokens.proofs.duration.with_parts.Tie as tie

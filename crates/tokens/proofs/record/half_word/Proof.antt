@@ -1,5 +1,4 @@
 use Rattle.text.proofs.Tests.{steps}
-use borrow.Author.Rules.{rules}
 use Rattle.tokens.specs.Record.{half_word}
 use Rattle.tokens.proofs.record.half_word.Statement.{statement}
 use Rattle.tokens.proofs.record.half_word.Tie as tie

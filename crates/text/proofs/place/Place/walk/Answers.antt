@@ -1,5 +1,4 @@
 use mathlib.Core.Path.{◌∙◌, refl, sym}
-use Prim.Native.Nat.{◌-◌}
 use native.Mathlib.Omega.{arith}
 use Rattle.text.proofs.StepLaws.{Stepped, step-next, step_stop, walk_step, walk_stop}
 use Rattle.text.proofs.place.Place.walk.Goals as goal

@@ -1,0 +1,19 @@
+use mathlib.Core.Path.{refl}
+use borrow.Author.Rules.{rules}
+use Rattle.tokens.proofs.ScanLaws.{comment-line, comment_stop, comment-on, comment-behind, comment-less}
+use Rattle.tokens.proofs.scan.comment_end.Goals as goal
+
+pub loop-q-init : goal.loop-q-init
+loop-q-init c = (search rules, refl)
+
+pub returns-then-octet-eq10 : goal.returns-then-octet-eq10
+returns-then-octet-eq10 c = (search (rules, comment-line), search rules)
+
+pub loop-q-smaller : goal.loop-q-smaller
+loop-q-smaller c = search (rules, comment-less)
+
+pub loop-q-preserved : goal.loop-q-preserved
+loop-q-preserved c = (search (rules, comment-behind), search (rules, comment-on))
+
+pub returns-in-Stop : goal.returns-in-Stop
+returns-in-Stop c = (search (rules, comment_stop), search rules)
