@@ -1,6 +1,6 @@
 -- The sheet before document 02, §8: no CR belonged to a line's end, and "A name has 1 to 48 bytes without comma, quote or LF." A sheet with
 -- neither CR nor a comma in a name says what it said then, line by line and as a whole.
-use mathlib.Core.Path.{◌≡◌, ◌∙◌, refl, sym}
+use mathlib.Core.Path.{◌≡◌, refl}
 use mathlib.Core.Bool.{Bool, true, false, not}
 use mathlib.Core.List.{List, [], ◌∷◌}
 use Prim.Native.Nat.{ℕ, zero, suc, ◌+◌}
@@ -12,7 +12,7 @@ use Rattle.text.specs.Literal.{ascii}
 use Rattle.text.specs.Part.{same_bytes}
 use Rattle.model.specs.Limits.{last_adapter, longest_name}
 use Rattle.sheet.specs.Kind.{no_kind, kind_of, most_of}
-use Rattle.sheet.specs.Line.{without_return, field, rest, has_comma, numeral, is_mark, plain, is_name, checked_row, read_row, primary_of, adapter_of, party_of, line_by, bare_line, bare_name, line_of, name_of}
+use Rattle.sheet.specs.Line.{field, rest, has_comma, numeral, is_mark, plain, is_name, checked_row, read_row, primary_of, adapter_of, party_of, line_by, bare_line, bare_name, line_of, name_of}
 use Rattle.sheet.specs.Sheet.{lines, is_owner_of, has_owner, may_follow, last_line, Sheet, well_formed, bad_line_rule, following_check, is_primary, lines_check, longest_sheet, sheet_check, Entry, entry_by, entries, is_listing, lists, primary_by, primary_line}
 use Rattle.sheet.specs.Party.{owner_by, owner_of}
 use Rattle.sheet.specs.declared.line.Line.{Line}

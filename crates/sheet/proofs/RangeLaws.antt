@@ -1,8 +1,8 @@
 -- What the lines of a sheet say is in range: "A is 0 to 255, N at most 63 (15 for group)".
 use Prim.Native.Nat.{ℕ, ◌≤◌}
 use native.Mathlib.Omega.{arith}
-use mathlib.Core.Path.{◌≡◌, refl, subst}
-use mathlib.Core.Bool.{Bool, true, false}
+use mathlib.Core.Path.{subst}
+use mathlib.Core.Bool.{Bool}
 use mathlib.Core.List.{List, [], ◌∷◌}
 use lib.Dec.{leb, eqb}
 use borrow.Author.Tests.{leb-true}
@@ -11,12 +11,12 @@ use Rattle.text.specs.Literal.{ascii}
 use Rattle.text.proofs.Tests.{picked}
 use Rattle.model.specs.Limits.{last_adapter, last_party}
 use Rattle.sheet.specs.Kind.{no_kind, kind_of, most_of}
-use Rattle.sheet.specs.Line.{without_return, field, rest, has_comma, numeral, is_name, checked_row, read_row, primary_of, adapter_of, party_by, party_of, line_by, bare_line, line_of, name_of}
+use Rattle.sheet.specs.Line.{without_return, field, rest, has_comma, is_name, checked_row, read_row, primary_of, adapter_of, party_by, party_of, line_by, bare_line, line_of, name_of}
 use Rattle.sheet.specs.Sheet.{Entry, lines, entry_by, entries, primary_by, primary_line}
 use Rattle.sheet.specs.Party.{entries_on}
 use Rattle.sheet.specs.View.{View, seen}
 use Rattle.sheet.specs.declared.Call.{Call}
-use Rattle.sheet.specs.Picks.{InScope, Picks, past, here}
+use Rattle.sheet.specs.Picks.{Picks, past, here}
 use Rattle.sheet.specs.declared.line.Line.{Line}
 use Rattle.sheet.specs.declared.line.Line.TheVariants.{Primary, Adapter, Party, Row, Bad}
 use Rattle.sheet.specs.declared.resolve.Scope.{Scope}
@@ -137,5 +137,6 @@ view_in call s h = record { primary = h; rows = rows_on_in _ (rows_in (lines s))
 -- and so is the row that a name picks, with the range of its kind
 pub picked_in : {kind : ℕ} {name : List ℕ} {scope : Scope} {es : List Entry} {e : Entry} → RowsInRange es → Picks kind name scope es e →
     (e.adapter ≤ last_adapter) × (e.number ≤ most_of kind)
+picked_in {kind = kind} {name = name} {scope = scope} {e = e} no_row p = elim p [ ]
 picked_in (a_row a n h) (past x p) = picked_in h p
 picked_in (a_row {e} a n h) (here s w) = (a, subst (λ (k : ℕ). e.number ≤ most_of k) s.same_kind n)

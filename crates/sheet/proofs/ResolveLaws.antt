@@ -7,7 +7,7 @@ use mathlib.Core.Bool.{Bool, true, false, not}
 use mathlib.Core.List.{List, [], ◌∷◌, ◌++◌, append-nil, append_assoc}
 use lib.ListN.{length, drop, length-append}
 use lib.Dec.{ltb, eqb}
-use borrow.Author.Tests.{ltb-false, le-ltb, eq-eqb, ne_eqb, eqb-true, not-true, not-false}
+use borrow.Author.Tests.{ltb-false, eq-eqb, ne_eqb, eqb-true, not-true, not-false}
 use Rattle.text.specs.Choice.{pick}
 use Rattle.text.specs.Part.{part_of, same_bytes}
 use Rattle.text.specs.Place.{counted}

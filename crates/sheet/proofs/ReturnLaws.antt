@@ -92,7 +92,7 @@ digits_return v (c ∷ l) h =
     picked P (ltb 999 (v * 10 + (c - 0x30))) (λ _. refl)
     (λ _.
     let k = leb-true 0x30 c (both (leb 0x30 c) digit).0 in
-    digits_return _ l (rw (ne_eqb c 0x0D (λ e. omega arith)) at h)))
+    digits_return (v * 10 + (c - 0x30)) l (rw (ne_eqb c 0x0D (λ e. omega arith)) at h)))
     (λ _. refl)
 
 numeral_return : (l : List ℕ) → holds 0x0D l ≡ true → numeral l ≡ 1000

@@ -1,6 +1,6 @@
 -- The one pass over the lines answers question 3, and finds which adapters are the party's and which are listed.
 use mathlib.Core.Path.{◌≡◌, ◌∙◌, refl, sym, ap}
-use mathlib.Core.Bool.{Bool, true, false, not, false≢true}
+use mathlib.Core.Bool.{Bool, true, false, false≢true}
 use mathlib.Core.List.{List, [], ◌∷◌}
 use Prim.Native.Nat.{ℕ, ◌+◌}
 use native.Mathlib.Omega.{arith}
@@ -11,7 +11,7 @@ use Rattle.text.specs.Choice.{pick}
 use Rattle.sheet.specs.Line.{line_of}
 use Rattle.sheet.specs.Sheet.{lines, last_line, longest_sheet, Sheet, well_formed, bad_line_rule, is_owner_of, has_owner, may_follow, following_check, is_primary, lines_check, sheet_check, is_listing, lists}
 use Rattle.sheet.specs.Party.{owner_by, owner_of, owns}
-use Rattle.sheet.specs.Adapters.{has, packed}
+use Rattle.sheet.specs.Adapters.{packed}
 use Rattle.sheet.specs.Survey.{may_add, added, none_said, bad_line, survey_from, survey_lines, survey_of}
 use Rattle.sheet.specs.declared.line.Line.{Line}
 use Rattle.sheet.specs.declared.line.Line.TheVariants.{Primary, Adapter, Party, Row, Bad}

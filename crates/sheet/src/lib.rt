@@ -1,4 +1,6 @@
 // The name sheet, and the lookups in it.
+#![tactic(auto)]
+
 pub mod adapters;
 pub mod kind;
 pub mod line;

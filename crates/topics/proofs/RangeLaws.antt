@@ -156,9 +156,9 @@ pub words-stand : (s : List ℕ) {ranges : Ranges} {topics : List (List ℕ)} �
     length topics + length names ≤ most_topics → Stand s (ranges_from ranges (range_words names)) (topics ++ map (name_in s) names)
 unfolding ranges_from range_words
 words-stand s g [] room = rw append-nil g
-words-stand s {topics = topics} g (n ∷ ns) room =
+words-stand s {ranges = ranges} {topics = topics} g (n ∷ ns) room =
     rw (append_assoc) at
-    (words-stand s (name-stands s g (omega arith) n) ns (omega (arith, length-append topics (name_in s n ∷ []))))
+    (words-stand s {ranges = with_name ranges n} {topics = topics ++ name_in s n ∷ []} (name-stands s g (omega arith) n) ns (omega (arith, length-append topics (name_in s n ∷ []))))
 
 pub topics_at_lem : (s : List ℕ) (names : List Name) → length names ≤ most_topics → topics_at s (range_words names) ≡ map (name_in s) names
 unfolding topics_at ranges_of

@@ -6,8 +6,8 @@ use lib.Dec.{leb}
 use borrow.Author.Rules.{rules}
 use Rattle.topics.specs.Topics.{has, different, most_topics, too_many}
 use Rattle.topics.proofs.AllowedLaws.{too_many-lent}
-use Rattle.topics.proofs.limit.too_many_lem.Statement.{statement}
-use Rattle.topics.proofs.limit.too_many_lem.Tie as tie
+use Rattle.topics.proofs.limit.too_many.Statement.{statement}
+use Rattle.topics.proofs.limit.too_many.Tie as tie
 
 -- the topics of an earlier rule count as lent ones do: the code asks of them with those named before
 module _ (lent first named : List (List ℕ)) (topic : List ℕ) {t : Bool} (asked : t ≡ has topic lent) where

@@ -1,9 +1,8 @@
-use Prim.Native.Nat.{ℕ, ◌≤◌}
-use mathlib.Core.Path.{◌≡◌, ◌∙◌, sym, refl, ap}
+use Prim.Native.Nat.{ℕ}
+use mathlib.Core.Path.{◌≡◌}
 use mathlib.Core.List.{List, ◌++◌, append-nil}
-use native.Mathlib.Omega.{arith}
 use borrow.Author.Rules.{rules}
-use Rattle.topics.specs.Topics.{different, most_topics}
+use Rattle.topics.specs.Topics.{different}
 use Rattle.topics.specs.Ranges.{no_ranges, topics_in}
 use Rattle.topics.specs.declared.ranges.Ranges.{Ranges}
 use Rattle.topics.proofs.RangeLaws.{none-stand}

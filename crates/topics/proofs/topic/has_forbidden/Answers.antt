@@ -10,8 +10,7 @@ use Rattle.text.specs.declared.utf8.Decoded.{Decoded}
 use Rattle.text.specs.declared.utf8.Decoded.TheVariants.{Char, Bad, End}
 use Rattle.text.proofs.CharLaws.{char-inside, chars-char, chars-bad, chars-end}
 use Rattle.topics.specs.Topic.{is_forbidden, forbidden_among, forbidden}
-use Rattle.topics.proofs.topic.has_forbidden.Statement.{statement}
-use Rattle.topics.proofs.topic.has_forbidden.Tie as tie
+use Rattle.topics.proofs.topic.has_forbidden.Goals as goal
 
 -- of the characters from an offset one is forbidden if one of all is, which is start; a is what is decoded there
 module _ (s : List ℕ) (at : ℕ) {start : Bool} {a : Decoded} (i : forbidden_among (chars s at) ≡ start) (d : a ≡ decode_at s at) where
@@ -37,27 +36,25 @@ module _ (s : List ℕ) (at : ℕ) {start : Bool} {a : Decoded} (i : forbidden_a
   less : {code next : ℕ} → a ≡ Char code next → length s - next < length s - at
   less {code} {next} m = let h = char-inside s at code next (sym d ∙ m) in omega arith
 
-abbrev invariant-loop : tie.invariant-loop
-invariant-loop topic at₀ at = forbidden_among (chars topic at) ≡ forbidden_among (chars topic 0)
-
-abbrev decreases-loop : tie.decreases-loop
-decreases-loop topic at₀ at = length topic - at
-
-pub has_forbidden_spec : {M : Type 1} → statement M
+pub loop-code-init : goal.loop-code-init
 unfolding forbidden
-has_forbidden_spec =
-    tie.close
-    (tie.spec
-    invariant-loop
-    decreases-loop
-    (λ c. refl)
-    (λ c κs. search rules)
-    (λ c. search rules)
-    (λ c. search (rules, bad))
-    (λ c. search rules)
-    (λ c. search (rules, end))
-    (λ c. search rules)
-    (λ c κs. search rules)
-    (λ c. search (rules, yes))
-    (λ c. search (rules, less))
-    (λ c. search (rules, on)))
+loop-code-init c = refl
+
+pub returns-in-Bad : goal.returns-in-Bad
+unfolding forbidden
+returns-in-Bad c = search (rules, bad)
+
+pub returns-in-End : goal.returns-in-End
+unfolding forbidden
+returns-in-End c = search (rules, end)
+
+pub returns-then-is_forbidden : goal.returns-then-is_forbidden
+unfolding forbidden
+returns-then-is_forbidden c = search (rules, yes)
+
+pub loop-code-smaller : goal.loop-code-smaller
+loop-code-smaller c = search (rules, less)
+
+pub loop-code-preserved : goal.loop-code-preserved
+unfolding forbidden
+loop-code-preserved c = search (rules, on)

@@ -1,8 +1,7 @@
 use mathlib.Core.Path.{◌≡◌, ◌∙◌, refl, sym}
 use mathlib.Core.Bool.{Bool, true, false, not, false≢true}
 use mathlib.Core.List.{List}
-use mathlib.Core.Logic.{⊎_elim}
-use Prim.Native.Nat.{ℕ, ◌+◌, ◌-◌, ◌<◌, ◌≤◌}
+use Prim.Native.Nat.{ℕ, ◌+◌, ◌<◌, ◌≤◌}
 use lib.ListN.{length, drop}
 use borrow.Author.Rules.{rules}
 use borrow.Author.Tests.{lt-ltb, le-ltb, not-true, not-false}
@@ -16,8 +15,8 @@ use Rattle.sheet.specs.declared.rows.Said.{Said}
 use Rattle.sheet.specs.declared.rows.Survey.{Survey}
 use Rattle.sheet.specs.declared.rows.Verdict.TheVariants.{WellFormed}
 use Rattle.text.proofs.SplitLaws.{split-on, split-none, part-read, less-left, next_fits}
-use Rattle.sheet.proofs.rows.following_check.Statement.{statement}
-use Rattle.sheet.proofs.rows.following_check.Tie as tie
+use Rattle.sheet.proofs.rows.following_check.Goals as goal
+use Rattle.sheet.proofs.rows.following_check.Goals.{then-not-is_named+else-not-may_add, else-not-is_named}
 
 -- a row with a name may follow, and says nothing
 named-may : (said : Said) (l : Line) → is_named l ≡ true → may_add said l ≡ true
@@ -63,32 +62,27 @@ module _ (party n : ℕ) (said : Said) (s : List ℕ) (at : ℕ) {start : Survey
         let t = sym a ∙ not-false r b in
         rw (y, ← (named-adds party said l t)) (rw (part-read 0x0A s at e h q, le-ltb last_line n k, ← w, named-may said l t) at i)
 
--- the lines from here, of which the first has the number n, are judged as all of them are
-abbrev invariant-loop : tie.invariant-loop
-invariant-loop s from party said₀ at₀ n₀ said at n = survey_from party n said (lines (drop at s)) ≡ survey_from party 2 said₀ (lines (drop from s))
+pub loop-at-init : goal.loop-at-init
+loop-at-init c = refl
 
-abbrev decreases-loop : tie.decreases-loop
-decreases-loop s from party said₀ at₀ n₀ said at n = length s - at
+pub returns-then-n-gt-LAST_LINE : goal.returns-then-n-gt-LAST_LINE
+returns-then-n-gt-LAST_LINE c = search (rules, over)
 
-pub following_check_spec : {M : Type 1} → statement M
-following_check_spec =
-    tie.close
-    (tie.spec
-    invariant-loop
-    decreases-loop
-    (λ c. refl)
-    (λ c κs. search rules)
-    (λ c. search (rules, over))
-    (λ c κs. search rules)
-    (λ c κs. search rules)
-    (λ c κs. search rules)
-    (λ c κs. search rules)
-    (λ c κs. search rules)
-    (λ c κs. search rules)
-    (λ c. search (rules, bad))
-    (λ c κs. search rules)
-    (λ c. search rules)
-    (λ c. search (rules, next_fits))
-    (λ c. search (rules, less-left))
-    (λ c. ⊎_elim (λ w. search (rules, on)) (λ w. search (rules, past)) c.if2.branch)
-    (λ c. search (rules, none)))
+pub returns-then-not-may_add : goal.returns-then-not-may_add
+returns-then-not-may_add c = search (rules, bad)
+
+pub overflow_add-at : goal.overflow_add-at
+overflow_add-at c = search (rules, next_fits)
+
+pub loop-at-smaller : goal.loop-at-smaller
+loop-at-smaller c = search (rules, less-left)
+
+pub loop-at-preserved : goal.loop-at-preserved
+loop-at-preserved c =
+    elim c.if-not-is_named.branch [
+      | then-not-is_named+else-not-may_add w ↦ search (rules, on)
+      | else-not-is_named w ↦ search (rules, past)
+    ]
+
+pub returns : goal.returns
+returns c = search (rules, none)

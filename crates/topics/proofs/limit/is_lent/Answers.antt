@@ -2,7 +2,7 @@ use mathlib.Core.Path.{◌≡◌, ◌∙◌, refl, sym}
 use mathlib.Core.Bool.{Bool, true, false}
 use mathlib.Core.List.{List}
 use mathlib.Core.Logic.{⊎_elim}
-use Prim.Native.Nat.{ℕ, ◌+◌, ◌-◌, ◌<◌, ◌≤◌}
+use Prim.Native.Nat.{ℕ, ◌+◌, ◌<◌, ◌≤◌}
 use lib.ListN.{length, drop}
 use lib.Dec.{eqb}
 use borrow.Author.Rules.{rules}
@@ -14,8 +14,7 @@ use Rattle.text.proofs.SplitLaws.{less-left, next_fits}
 use Rattle.topics.specs.Topics.{lent_topics, has}
 use Rattle.topics.proofs.DifferentLaws.{told, has_here}
 use Rattle.topics.proofs.LentLaws.{empty-never, lent-end, lent-empty, lent-line}
-use Rattle.topics.proofs.limit.is_lent.Statement.{statement}
-use Rattle.topics.proofs.limit.is_lent.Tie as tie
+use Rattle.topics.proofs.limit.is_lent.Goals as goal
 
 empty : (lent topic : List ℕ) → length topic ≡ 0 → false ≡ has topic (lent_topics lent)
 unfolding lent_topics
@@ -42,26 +41,23 @@ module _ (lent topic : List ℕ) (at : ℕ) {start : Bool} (i : has topic (lent_
         (λ t. rw (lent-line lent at h e q (eqb-false (length p) 0 t), ← said, k) at i)
         (told (eqb (length p) 0))
 
--- the topic is among the lent ones from here if it is among all
-abbrev invariant-loop : tie.invariant-loop
-invariant-loop lent topic at₀ at = has topic (lent_topics (drop at lent)) ≡ has topic (lent_topics lent)
+pub returns-then-topic-eq0 : goal.returns-then-topic-eq0
+returns-then-topic-eq0 c = search (rules, empty)
 
-abbrev decreases-loop : tie.decreases-loop
-decreases-loop lent topic at₀ at = length lent - at
+pub loop-at-init : goal.loop-at-init
+loop-at-init c = refl
 
-pub is_lent_spec : {M : Type 1} → statement M
-is_lent_spec =
-    tie.close
-    (tie.spec
-    invariant-loop
-    decreases-loop
-    (λ c. search (rules, empty))
-    (λ c. refl)
-    (λ c κs. search rules)
-    (λ c κs. search rules)
-    (λ c κs. search rules)
-    (λ c. search (rules, yes))
-    (λ c. search (rules, next_fits))
-    (λ c. search (rules, less-left))
-    (λ c. search (rules, on))
-    (λ c. search (rules, none)))
+pub returns-then-same : goal.returns-then-same
+returns-then-same c = search (rules, yes)
+
+pub overflow_add-at : goal.overflow_add-at
+overflow_add-at c = search (rules, next_fits)
+
+pub loop-at-smaller : goal.loop-at-smaller
+loop-at-smaller c = search (rules, less-left)
+
+pub loop-at-preserved : goal.loop-at-preserved
+loop-at-preserved c = search (rules, on)
+
+pub returns : goal.returns
+returns c = search (rules, none)

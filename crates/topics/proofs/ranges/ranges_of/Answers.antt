@@ -1,22 +1,14 @@
 use Prim.Native.Nat.{ℕ, suc, ◌+◌, ◌-◌, ◌<◌, ◌≤◌}
-use mathlib.Core.Path.{◌≡◌, ◌∙◌, refl, ap, sym}
+use mathlib.Core.Path.{◌≡◌, ◌∙◌, refl}
 use mathlib.Core.List.{List, [], ◌∷◌}
 use native.Mathlib.Omega.{arith}
 use native.Mathlib.Numerals.{add-one}
-use lib.ListN.{length, drop, get_or, length-drop, drop_of_length-le}
+use lib.ListN.{length, drop, get_or, length-drop}
 use lib.Seq.{drop-cons}
 use borrow.Author.Rules.{rules}
 use Rattle.topics.specs.Ranges.{no_ranges, with_name, ranges_from, ranges_of}
 use Rattle.topics.specs.declared.ranges.Ranges.{Ranges}
-use Rattle.topics.proofs.ranges.ranges_of.Statement.{statement}
-use Rattle.topics.proofs.ranges.ranges_of.Tie as tie
-
--- what the words from the start before i on add comes to all ranges
-abbrev invariant-loop : tie.invariant-loop
-invariant-loop words ranges₀ i₀ ranges i = (ranges_from ranges (drop (i - 1) words) ≡ ranges_of words) × (1 ≤ i)
-
-abbrev decreases-loop : tie.decreases-loop
-decreases-loop words ranges₀ i₀ ranges i = length words - i
+use Rattle.topics.proofs.ranges.ranges_of.Goals as goal
 
 begin : (words : List ℕ) {ranges : Ranges} → ranges ≡ no_ranges → ranges_from ranges words ≡ ranges_of words
 unfolding ranges_of
@@ -47,21 +39,11 @@ left ranges (start ∷ size ∷ words) h = absurd (omega arith)
 done : (words : List ℕ) (i : ℕ) {ranges : Ranges} → ranges_from ranges (drop (i - 1) words) ≡ ranges_of words → length words ≤ i → ranges ≡ ranges_of words
 done words i {ranges} g l = left ranges (drop (i - 1) words) (omega (arith, length-drop (i - 1) words)) ∙ g
 
-pub ranges_of_spec : {M : Type 1} → statement M
-ranges_of_spec =
-    tie.close
-    (tie.spec
-    invariant-loop
-    decreases-loop
-    (λ c κs. search rules)
-    (λ c. (search (rules, begin), search rules))
-    (λ c. search rules)
-    (λ c. search rules)
-    (λ c. search rules)
-    (λ c. search rules)
-    (λ c. search rules)
-    (λ c κs. search rules)
-    (λ c. search rules)
-    (λ c. search rules)
-    (λ c. (search (rules, on), search rules))
-    (λ c. search (rules, done)))
+pub loop-i-init : goal.loop-i-init
+loop-i-init c = (search (rules, begin), search rules)
+
+pub loop-i-preserved : goal.loop-i-preserved
+loop-i-preserved c = (search (rules, on), search rules)
+
+pub returns : goal.returns
+returns c = search (rules, done)
