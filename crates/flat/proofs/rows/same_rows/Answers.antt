@@ -1,4 +1,4 @@
-use Prim.Native.Nat.{ℕ, ◌+◌, ◌-◌, ◌≤◌, ◌<◌}
+use Prim.Native.Nat.{ℕ, ◌+◌, ◌≤◌, ◌<◌}
 use native.Mathlib.Numerals.{add-one}
 use mathlib.Core.Path.{◌≡◌, refl}
 use mathlib.Core.Bool.{Bool, true, false}
@@ -9,8 +9,7 @@ use borrow.Author.Rules.{rules}
 use borrow.Author.Tests.{eq-eqb, ne_eqb}
 use Rattle.text.specs.Part.{same_bytes}
 use Rattle.flat.specs.Flat.{row_words}
-use Rattle.flat.proofs.rows.same_rows.Statement.{statement}
-use Rattle.flat.proofs.rows.same_rows.Tie as tie
+use Rattle.flat.proofs.rows.same_rows.Goals as goal
 
 -- whether the rows are the same from here on is whether the whole rows are, which is start
 module _ (x y : List ℕ) (i : ℕ) {start : Bool} (here : same_bytes (drop i x) (drop i y) ≡ start) where
@@ -27,28 +26,23 @@ module _ (x y : List ℕ) (i : ℕ) {start : Bool} (here : same_bytes (drop i x)
   unfolding same_bytes
   end h k = rw (drop_of_length-le x h, drop_of_length-le y k) at here
 
-abbrev invariant-loop : tie.invariant-loop
-invariant-loop x y i₀ i = (same_bytes (drop i x) (drop i y) ≡ same_bytes x y) × (i ≤ row_words)
-
-abbrev decreases-loop : tie.decreases-loop
-decreases-loop x y i₀ i = row_words - i
-
-pub same_rows_spec : {M : Type 1} → statement M
+pub loop-i-init : goal.loop-i-init
 unfolding row_words
-same_rows_spec =
-    tie.close
-    (tie.spec
-    invariant-loop
-    decreases-loop
-    (λ c. (refl, search rules))
-    (λ c. search rules)
-    (λ c. search rules)
-    (λ c. search rules)
-    (λ c. search rules)
-    (λ c. search (rules, other))
-    (λ c. search rules)
-    (λ c. search rules)
-    (λ c. (search (rules, on), search rules))
-    (λ c.
-    let a = c.before.before.args in
-    end a.t1 a.t2 c.before.loop.i c.before.loop.invariant.0 (search rules) (search rules)))
+loop-i-init c = (refl, search rules)
+
+pub returns-then-x-i : goal.returns-then-x-i
+unfolding row_words
+returns-then-x-i c = search (rules, other)
+
+pub loop-i-smaller : goal.loop-i-smaller
+unfolding row_words
+loop-i-smaller c = search rules
+
+pub loop-i-preserved : goal.loop-i-preserved
+unfolding row_words
+loop-i-preserved c = (search (rules, on), search rules)
+
+pub returns : goal.returns
+unfolding row_words
+returns c = let a = c.args in
+    end a.x a.y c.loop-i.i c.loop-i.invariant.0 (search rules) (search rules)
