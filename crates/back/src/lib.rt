@@ -1,4 +1,6 @@
 // An entry read back from its row of words (flat/specs/Back.antt), and whether words are an entry's row (specs/Rows.antt).
+#![tactic(auto)]
+
 pub mod choices;
 pub mod conditions;
 pub mod numbers;

@@ -1,4 +1,6 @@
 // An answer as words: nine rows of twelve (specs/Flat.antt). include/tergyosul.h has the same layout for C.
+#![tactic(auto)]
+
 pub mod codes;
 pub mod conditions;
 mod parts;
