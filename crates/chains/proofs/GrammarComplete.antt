@@ -32,7 +32,7 @@ use Rattle.sheet.specs.View.{View}
 use Rattle.references.specs.Grammar.{quoted, name, id, no_clause, clause, on_primary, inside, r, Lamp}
 use Rattle.language.specs.grammar.Words.{Signed, plus, minus}
 use Rattle.language.specs.grammar.Timeval.{Bound, clock, solar, later, earlier}
-use Rattle.language.specs.grammar.Expr.{LampProperty, TimeProperty, SunProperty, ReadingOf, ValueOf, number, signed_number, reading, reading_with}
+use Rattle.language.specs.grammar.Expr.{LampPropertyOf, TimeProperty, SunProperty, ReadingOf, ValueOf, number, signed_number, reading, reading_with}
 use Rattle.language.specs.grammar.Condition.{Compared, ConditionOf}
 use Rattle.language.specs.grammar.Text.{Repeated, ConditionsOf}
 use Rattle.chains.specs.Vocabulary.{piece_count, piece_token, chain_tokens}
@@ -155,11 +155,11 @@ module _ (v : List ℕ) (pieces : Each (λ q. q < piece_count) v) where
 
     reading-good : {i j : ℕ} {x : Reading} → ReadingOf (chain_tokens v) view range i x j → Good v j ReadLevel → Good v i Place.Compared
     unfolding same_bytes moved
-    reading-good (ReadingOf.of_lamp w h p (LampProperty.level q)) g =
+    reading-good (ReadingOf.of_lamp w h p (LampPropertyOf.level q)) g =
         word LAMP tt refl w (lamp-good refl refl refl refl h (sign (POINT ∷ []) refl tt (refl, tt) p (word LEVEL tt refl q g)))
-    reading-good (ReadingOf.of_lamp w h p (LampProperty.cct q)) g = absurd (no_word tt q)
-    reading-good (ReadingOf.of_lamp w h p (LampProperty.is_on_rule q)) g = absurd (no_word tt q)
-    reading-good (ReadingOf.of_lamp w h p (LampProperty.last_level_rule q)) g = absurd (no_word tt q)
+    reading-good (ReadingOf.of_lamp w h p (LampPropertyOf.cct q)) g = absurd (no_word tt q)
+    reading-good (ReadingOf.of_lamp w h p (LampPropertyOf.is_on_rule q)) g = absurd (no_word tt q)
+    reading-good (ReadingOf.of_lamp w h p (LampPropertyOf.last_level_rule q)) g = absurd (no_word tt q)
     reading-good (ReadingOf.of_group w h p q) g = absurd (no_word tt w)
     reading-good (ReadingOf.of_input w h p q) g = absurd (no_word tt w)
     reading-good (ReadingOf.of_time w p (TimeProperty.now q)) g = absurd (no_word tt q)

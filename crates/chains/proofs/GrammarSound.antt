@@ -27,7 +27,7 @@ use Rattle.sheet.specs.View.{View}
 use Rattle.references.specs.Grammar.{id, no_clause, on_primary, inside, r, Lamp}
 use Rattle.language.specs.grammar.Words.{plus, minus}
 use Rattle.language.specs.grammar.Timeval.{Bound, solar}
-use Rattle.language.specs.grammar.Expr.{LampProperty, ReadingOf, ValueOf, number, signed_number, reading, reading_with}
+use Rattle.language.specs.grammar.Expr.{LampPropertyOf, ReadingOf, ValueOf, number, signed_number, reading, reading_with}
 use Rattle.language.specs.grammar.Condition.{Compared, ConditionOf}
 use Rattle.language.specs.grammar.Text.{Repeated, ConditionsOf}
 use Rattle.chains.specs.Vocabulary.{piece_count, chain_tokens}
@@ -182,7 +182,7 @@ module _ (v : List ℕ) where
         let level = one_of LEVEL refl refl dot.1 in
         by
         (ReadingOf.of_lamp (word_of LAMP refl refl refl lamp) ref.1 (kind_of_lem POINT refl refl dot.0)
-        (LampProperty.level (word_of LEVEL refl refl refl level.0)))
+        (LampPropertyOf.level (word_of LEVEL refl refl refl level.0)))
         (omega arith) (next_of level.1)
       where
         by : {x : Reading} {j : ℕ} → ReadingOf (chain_tokens v) view range i x j → i + 1 ≤ j → Next v j ReadLevel → ReadValue i

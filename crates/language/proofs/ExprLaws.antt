@@ -34,7 +34,7 @@ use Rattle.model.specs.declared.Value.TheVariants.{Literal, Reads}
 use Rattle.language.specs.Words.{signed}
 use Rattle.language.specs.Expr.{lamp_property, group_property, input_property, time_property, sun_property, event_property, lamp_reading, group_reading, input_reading, time_reading, sun_reading, event_reading, var_reading, reading_by, reading_at, literal_at, delta_at, with_delta, read_value, value_at}
 use Rattle.language.specs.grammar.Words.{Signed, plus, minus}
-use Rattle.language.specs.grammar.Expr.{LampProperty, level, cct, is_on_rule, last_level_rule, GroupProperty, any_on, all_off, member_count, InputProperty, occupied, light, position, last_event_age, TimeProperty, now, hour, minute, weekday, SunProperty, rise, set, is_up, EventProperty, event_value, event_device, event_instance, event_option, ReadingOf, of_lamp, of_group, of_input, of_time, of_sun, of_event, of_var, ValueOf, number, signed_number, reading, reading_with}
+use Rattle.language.specs.grammar.Expr.{LampPropertyOf, level, cct, is_on_rule, last_level_rule, GroupProperty, any_on, all_off, member_count, InputProperty, occupied, light, position, last_event_age, TimeProperty, now, hour, minute, weekday, SunProperty, rise, set, is_up, EventProperty, event_value, event_device, event_instance, event_option, ReadingOf, of_lamp, of_group, of_input, of_time, of_sun, of_event, of_var, ValueOf, number, signed_number, reading, reading_with}
 use Rattle.language.proofs.WordLaws.{End, Unsigned, then-kind}
 
 -- f of a number behind a sign, or something else where no sign stands
@@ -148,7 +148,7 @@ module _ (t : ℕ → Tok) (view : View) (range : ℕ → Name) where
       (λ e. bind_ok G (reading_at t view range fuel i) _ (reading-sound fuel i) (λ r j h. delta-sound r h)))
 
 -- a property that the grammar lists is taken, behind its point
-lamp_property_lem : {t : ℕ → Tok} {h a i j : ℕ} {p : LampReading} → Token t 12 h a i → LampProperty t i p j →
+lamp_property_lem : {t : ℕ → Tok} {h a i j : ℕ} {p : LampReading} → Token t 12 h a i → LampPropertyOf t i p j →
     bind (point_choice t (ascii "level cct is_on last_level") h) (λ n k. ok (lamp_property n) k) ≡ ok p j
 unfolding lamp_property words_in split place_in same_bytes
 lamp_property_lem {t} point (level w) = rw (point_choice_complete t (ascii "level cct is_on last_level") {n = 0} point w refl refl)

@@ -17,11 +17,11 @@ use Rattle.model.specs.declared.TimeBound.{TimeBound}
 use Rattle.language.specs.Limits.{most_later, most_earlier}
 use Rattle.language.specs.Words.{signed}
 use Rattle.language.specs.Timeval.{most_offset, offset_bound, offset_at, with_offset, solar_event, solar_at, time_bound}
-use Rattle.language.specs.grammar.Timeval.{SolarEvent, Bound, clock, solar, later, earlier}
+use Rattle.language.specs.grammar.Timeval.{SolarEventOf, Bound, clock, solar, later, earlier}
 use Rattle.language.proofs.WordLaws.{Unsigned, then-kind}
 
 module _ (t : ℕ → Tok) where
-  solar-sound : {i j : ℕ} (event : SolarEvent) → SolarEvent t i event j → Okay (Bound t i) (with_offset t event j)
+  solar-sound : {i j : ℕ} (event : SolarEvent) → SolarEventOf t i event j → Okay (Bound t i) (with_offset t event j)
   unfolding with_offset offset_at offset_bound most_offset signed
   solar-sound {i} {j} event h =
       let G = Bound t i in
@@ -47,7 +47,7 @@ module _ (t : ℕ → Tok) where
       ((λ j w. solar-sound _ (the_first w)), ((λ j w. solar-sound _ (the_second w)), tt)))
 
 -- a solar event, whatever follows it
-solar-complete : {t : ℕ → Tok} {i j : ℕ} {event : SolarEvent} → SolarEvent t i event j → time_bound t i ≡ with_offset t event j
+solar-complete : {t : ℕ → Tok} {i j : ℕ} {event : SolarEvent} → SolarEventOf t i event j → time_bound t i ≡ with_offset t event j
 unfolding time_bound solar_at solar_event words_in split position same_bytes
 solar-complete {t} {i} (the_first w) =
     rw (kind-no t 4 i (not-kind t 4 refl (word-kind w)), choice-complete t (ascii "sunrise sunset") 21 {n = 0} w refl refl)

@@ -12,7 +12,7 @@ use Rattle.tokens.specs.Grammar.{the_first, the_second}
 use Rattle.model.specs.declared.SolarEvent.{SolarEvent}
 use Rattle.model.specs.declared.TimeBound.{TimeBound}
 use Rattle.language.specs.Limits.{most_earlier}
-use Rattle.language.specs.grammar.Timeval.{SolarEvent, Bound, clock, solar, later, earlier}
+use Rattle.language.specs.grammar.Timeval.{SolarEventOf, Bound, clock, solar, later, earlier}
 use Rattle.writing.specs.Pieces.{Piece}
 use Rattle.writing.specs.Write.{solar_word, offset_pieces, bound_pieces}
 use Rattle.writing.specs.Possible.{is_signed_up_to, possible_bound}
@@ -24,7 +24,7 @@ pub below-zero : (n : ℕ) → neg_ℤ (pos (n + 1)) ≡ negsuc n
 below-zero n = rw add-one
 
 module _ {t : ℕ → Tok} where
-  solar-read : (event : SolarEvent) {i j : ℕ} → Stands t i (Piece.word (solar_word event) ∷ []) j → SolarEvent t i event j
+  solar-read : (event : SolarEvent) {i j : ℕ} → Stands t i (Piece.word (solar_word event) ∷ []) j → SolarEventOf t i event j
   solar-read SolarEvent.Sunrise s = the_first (word_read s)
   solar-read SolarEvent.Sunset s = the_second (word_read s)
 

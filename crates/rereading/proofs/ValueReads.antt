@@ -22,7 +22,7 @@ use Rattle.model.specs.declared.TimeReading.{TimeReading}
 use Rattle.model.specs.declared.Value.{Value}
 use Rattle.language.specs.Same.{no_name, reading_parts, value_parts, operand_parts}
 use Rattle.language.specs.grammar.Words.{Signed, plus, minus}
-use Rattle.language.specs.grammar.Expr.{LampProperty, level, cct, is_on_rule, last_level_rule, GroupProperty, any_on, all_off, member_count, InputProperty, occupied, light, position, last_event_age, TimeProperty, now, hour, minute, weekday, SunProperty, rise, set, is_up, EventProperty, event_value, event_device, event_instance, event_option, ReadingOf, of_lamp, of_group, of_input, of_time, of_sun, of_event, of_var, ValueOf, number, signed_number, reading, reading_with}
+use Rattle.language.specs.grammar.Expr.{LampPropertyOf, level, cct, is_on_rule, last_level_rule, GroupProperty, any_on, all_off, member_count, InputProperty, occupied, light, position, last_event_age, TimeProperty, now, hour, minute, weekday, SunProperty, rise, set, is_up, EventProperty, event_value, event_device, event_instance, event_option, ReadingOf, of_lamp, of_group, of_input, of_time, of_sun, of_event, of_var, ValueOf, number, signed_number, reading, reading_with}
 use Rattle.language.specs.grammar.Condition.{OperandOf, text, value}
 use Rattle.language.proofs.ReflowLaws.{shown_reading, shown_value, shown_operand, one_name, reads-shown, number-shown}
 use Rattle.writing.specs.Pieces.{Piece}
@@ -40,7 +40,7 @@ use Rattle.rereading.proofs.TimeReads.{below-zero}
 module _ {t : ℕ → Tok} where
   -- ---- the properties by their words
 
-  lamp_property-read : (p : LampReading) {i j : ℕ} → Stands t i (Piece.word (lamp_reading_word p) ∷ []) j → LampProperty t i p j
+  lamp_property-read : (p : LampReading) {i j : ℕ} → Stands t i (Piece.word (lamp_reading_word p) ∷ []) j → LampPropertyOf t i p j
   lamp_property-read LampReading.Level s = level (word_read s)
   lamp_property-read LampReading.Cct s = cct (word_read s)
   lamp_property-read LampReading.IsOn s = is_on_rule (word_read s)

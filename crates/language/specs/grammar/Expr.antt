@@ -27,11 +27,11 @@ use Rattle.model.specs.declared.Value.TheVariants.{Literal, Reads}
 use Rattle.language.specs.grammar.Words.{Signed}
 
 -- The properties, each by its word. "lamp R level, cct, is_on, last_level"
-pub data LampProperty (t : ℕ → Tok) : ℕ → LampReading → ℕ → Type 0 where
-  level : {i j : ℕ} → Word t (ascii "level") i j → LampProperty t i Level j
-  cct : {i j : ℕ} → Word t (ascii "cct") i j → LampProperty t i Cct j
-  is_on_rule : {i j : ℕ} → Word t (ascii "is_on") i j → LampProperty t i IsOn j
-  last_level_rule : {i j : ℕ} → Word t (ascii "last_level") i j → LampProperty t i LastLevel j
+pub data LampPropertyOf (t : ℕ → Tok) : ℕ → LampReading → ℕ → Type 0 where
+  level : {i j : ℕ} → Word t (ascii "level") i j → LampPropertyOf t i Level j
+  cct : {i j : ℕ} → Word t (ascii "cct") i j → LampPropertyOf t i Cct j
+  is_on_rule : {i j : ℕ} → Word t (ascii "is_on") i j → LampPropertyOf t i IsOn j
+  last_level_rule : {i j : ℕ} → Word t (ascii "last_level") i j → LampPropertyOf t i LastLevel j
 
 -- "group R any_on, all_off, member_count"
 pub data GroupProperty (t : ℕ → Tok) : ℕ → GroupReading → ℕ → Type 0 where
@@ -69,7 +69,7 @@ pub data EventProperty (t : ℕ → Tok) : ℕ → EventReading → ℕ → Type
 -- "Readings, after a point: …; and var Q." One of `event` only where that may stand.
 pub data ReadingOf (t : ℕ → Tok) (view : View) (range : ℕ → Name) : ℕ → Reading → ℕ → Type 0 where
   of_lamp : {i j k a l m : ℕ} {r : Ref} {p : LampReading} → Word t (ascii "lamp") i j → Lamp t view j r k → Token t POINT k a l →
-      LampProperty t l p m → ReadingOf t view range i (Reading.Lamp r p) m
+      LampPropertyOf t l p m → ReadingOf t view range i (Reading.Lamp r p) m
   of_group : {i j k a l m : ℕ} {r : Ref} {p : GroupReading} → Word t (ascii "group") i j → Group t view j r k → Token t POINT k a l →
       GroupProperty t l p m → ReadingOf t view range i (Reading.Group r p) m
   of_input : {i j k a l m : ℕ} {r : InputRef} {p : InputReading} → Word t (ascii "input") i j → OneInstance t view j r k →
