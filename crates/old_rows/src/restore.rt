@@ -257,13 +257,13 @@ fn back_changes(sheet: &[u8], settings: Settings, l: Triggers, out: &mut [u8]) -
     let mut made = [0u8; MOST_BYTES];
     let rows = make_rows(&mut made, sheet, settings, l);
     if rows.unnamed == 0 {
-        let end = bytes::copy(&made[..rows.length], out);
+        out[..rows.length].copy_from_slice(&made[..rows.length]);
         return Written {
             number: 0,
             line: 0,
             column: 0,
             detail: 0,
-            length: end as u32,
+            length: rows.length as u32,
         };
     }
     refused(62, rows.unnamed)

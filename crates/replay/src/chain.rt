@@ -20,16 +20,16 @@ const UNTOUCHED: u32 = 165;
 const ROOM: usize = 256;
 
 // Reads the line of so many pieces into the start of a buffer; false where they are not there or find no room.
-fn fill(pieces: &mut [u8], count: usize) -> bool {
+fn fill(rt: &HostRuntime, pieces: &mut [u8], count: usize) -> bool {
     if count == 0 {
-        return input::follows(b"\n");
+        return input::follows(rt, b"\n");
     }
     if pieces.len() < count {
         return false;
     }
     let mut i = 0;
     while i < count {
-        let n = input::number(input::separator(i + 1 == count));
+        let n = input::number(rt, input::separator(i + 1 == count));
         if MOST < n {
             return false;
         }
@@ -91,24 +91,25 @@ fn lines(out: &mut [u8], id: u64, answer: &[u32], number: u32) -> usize {
 }
 
 // Makes the call and writes its lines at once.
-fn call(id: u64, start: &[u8], answer: &mut [u32]) {
+fn call(rt: &HostRuntime, id: u64, start: &[u8], answer: &mut [u32]) {
     let mut out = [0u8; ROOM];
     let number = tergyosul::chain::tergyosul_next_chain(start, answer);
     let end = lines(&mut out, id, answer, number);
-    io::write_all(1, text::part::part(&out, 0, end));
+    out::print(rt, text::part::part(&out, 0, end));
 }
 
 // Reads the pieces of a start, and makes the call with room for so many.
-fn run(id: u64, size: usize, count: usize) -> bool {
+fn run(rt: &HostRuntime, id: u64, size: usize, count: usize) -> bool {
     let mut start = [0u8; PIECES];
     let mut answer = [UNTOUCHED; FIRST_PIECE + MOST_SIZE];
     if MOST_SIZE < size {
         return false;
     }
-    if !fill(&mut start, count) {
+    if !fill(rt, &mut start, count) {
         return false;
     }
     call(
+        rt,
         id,
         text::part::part(&start, 0, count),
         &mut answer[..FIRST_PIECE + size],
@@ -117,15 +118,15 @@ fn run(id: u64, size: usize, count: usize) -> bool {
 }
 
 // What follows `next `; false where it is no such line.
-pub fn rest() -> bool {
-    let id = input::number(b' ');
-    let size = input::number(b' ');
-    let count = input::number(b'\n');
+pub fn rest(rt: &HostRuntime) -> bool {
+    let id = input::number(rt, b' ');
+    let size = input::number(rt, b' ');
+    let count = input::number(rt, b'\n');
     if id == input::NONE {
         return false;
     }
     if size < LEAST_SIZE {
         return false;
     }
-    run(id, size as usize, count as usize)
+    run(rt, id, size as usize, count as usize)
 }

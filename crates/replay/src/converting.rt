@@ -21,7 +21,7 @@ fn lines(out: &mut [u8], id: u64, answer: &[u32], number: u32) -> usize {
 }
 
 // Converts the rows and writes the lines of the answer at once.
-fn convert(head: Head, rows: &[u8], sheet: &[u8]) {
+fn convert(rt: &HostRuntime, head: Head, rows: &[u8], sheet: &[u8]) {
     let mut out = [0u8; ROOM];
     let mut answer = [layout::UNTOUCHED; layout::ANSWER];
     let number = tergyosul::converting::tergyosul_rows(
@@ -32,20 +32,21 @@ fn convert(head: Head, rows: &[u8], sheet: &[u8]) {
         &mut answer,
     );
     let end = lines(&mut out, head.id, &answer, number);
-    io::write_all(1, text::part::part(&out, 0, end));
+    out::print(rt, text::part::part(&out, 0, end));
 }
 
 // Reads what follows the first line of `rows`, and converts it; false where it is not there.
-fn run_rows(head: Head) -> bool {
+fn run_rows(rt: &HostRuntime, head: Head) -> bool {
     let mut rows = [0u8; crate::BYTES];
     let mut sheet = [0u8; crate::BYTES];
-    if !input::fill(&mut rows, head.rows) {
+    if !input::fill(rt, &mut rows, head.rows) {
         return false;
     }
-    if !input::fill(&mut sheet, head.sheet) {
+    if !input::fill(rt, &mut sheet, head.sheet) {
         return false;
     }
     convert(
+        rt,
         head,
         text::part::part(&rows, 0, head.rows),
         text::part::part(&sheet, 0, head.sheet),
@@ -54,7 +55,13 @@ fn run_rows(head: Head) -> bool {
 }
 
 // Converts the triggers back with so many bytes and writes the answer; false where there are fewer. Of the conditions only the count plays a part.
-fn convert_back(head: Head, sheet: &[u8], numbers: &[u32], buffer: &mut [u8]) -> bool {
+fn convert_back(
+    rt: &HostRuntime,
+    head: Head,
+    sheet: &[u8],
+    numbers: &[u32],
+    buffer: &mut [u8],
+) -> bool {
     if buffer.len() < head.rows {
         return false;
     }
@@ -66,22 +73,23 @@ fn convert_back(head: Head, sheet: &[u8], numbers: &[u32], buffer: &mut [u8]) ->
         layout::word(numbers, written::CONDITION_COUNT) as usize,
         &mut buffer[..head.rows],
     );
-    written::write(head.id, buffer, w);
+    written::write(rt, head.id, buffer, w);
     true
 }
 
 // Reads what follows the first line of `back`, and converts it; false where it is not there.
-fn run_back(head: Head) -> bool {
+fn run_back(rt: &HostRuntime, head: Head) -> bool {
     let mut sheet = [0u8; crate::BYTES];
     let mut numbers = [0; written::NUMBERS];
     let mut buffer = [written::UNTOUCHED; written::MOST_SIZE];
-    if !input::fill(&mut sheet, head.sheet) {
+    if !input::fill(rt, &mut sheet, head.sheet) {
         return false;
     }
-    if !written::fill(&mut numbers) {
+    if !written::fill(rt, &mut numbers) {
         return false;
     }
     convert_back(
+        rt,
         head,
         text::part::part(&sheet, 0, head.sheet),
         &numbers,
@@ -90,12 +98,12 @@ fn run_back(head: Head) -> bool {
 }
 
 // What follows `rows `; false where it is no such line.
-pub fn rest_of_rows() -> bool {
-    let id = input::number(b' ');
-    let party = input::number(b' ');
-    let primary = input::number(b' ');
-    let rows = input::number(b' ');
-    let sheet = input::number(b'\n');
+pub fn rest_of_rows(rt: &HostRuntime) -> bool {
+    let id = input::number(rt, b' ');
+    let party = input::number(rt, b' ');
+    let primary = input::number(rt, b' ');
+    let rows = input::number(rt, b' ');
+    let sheet = input::number(rt, b'\n');
     if id == input::NONE {
         return false;
     }
@@ -105,22 +113,25 @@ pub fn rest_of_rows() -> bool {
     if crate::MOST < primary {
         return false;
     }
-    run_rows(Head {
-        id,
-        party: party as u8,
-        primary: primary as u8,
-        rows: rows as usize,
-        sheet: sheet as usize,
-    })
+    run_rows(
+        rt,
+        Head {
+            id,
+            party: party as u8,
+            primary: primary as u8,
+            rows: rows as usize,
+            sheet: sheet as usize,
+        },
+    )
 }
 
 // What follows `back `; false where it is no such line.
-pub fn rest_of_back() -> bool {
-    let id = input::number(b' ');
-    let rows = input::number(b' ');
-    let party = input::number(b' ');
-    let primary = input::number(b' ');
-    let sheet = input::number(b'\n');
+pub fn rest_of_back(rt: &HostRuntime) -> bool {
+    let id = input::number(rt, b' ');
+    let rows = input::number(rt, b' ');
+    let party = input::number(rt, b' ');
+    let primary = input::number(rt, b' ');
+    let sheet = input::number(rt, b'\n');
     if id == input::NONE {
         return false;
     }
@@ -130,11 +141,14 @@ pub fn rest_of_back() -> bool {
     if crate::MOST < primary {
         return false;
     }
-    run_back(Head {
-        id,
-        party: party as u8,
-        primary: primary as u8,
-        rows: rows as usize,
-        sheet: sheet as usize,
-    })
+    run_back(
+        rt,
+        Head {
+            id,
+            party: party as u8,
+            primary: primary as u8,
+            rows: rows as usize,
+            sheet: sheet as usize,
+        },
+    )
 }

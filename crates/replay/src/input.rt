@@ -1,4 +1,5 @@
 // The cases and calls on standard input.
+use std::io::Read;
 
 // The most digits of a number.
 const DIGITS: u32 = 18;
@@ -21,10 +22,24 @@ pub const SHOP: u32 = 3;
 // What stands for a habit where there is none.
 pub const NO_HABIT: u32 = 0;
 
+// Reads until a buffer is full, the input ends or a read fails; how many bytes came.
+pub fn read_full(rt: &HostRuntime, buffer: &mut [u8]) -> usize {
+    let mut stdin = rt.stdin();
+    let mut done = 0;
+    while done < buffer.len() {
+        match stdin.read(&mut buffer[done..]) {
+            Ok(0) => break,
+            Ok(n) => done += n,
+            Err(_) => break,
+        }
+    }
+    done
+}
+
 // The next byte of the input; 0 at its end.
-fn next_byte() -> u8 {
+fn next_byte(rt: &HostRuntime) -> u8 {
     let mut one = [0u8; 1];
-    io::read_full(0, &mut one);
+    read_full(rt, &mut one);
     one[0]
 }
 
@@ -34,13 +49,13 @@ fn shifted(n: u64, digit: u8) -> u64 {
 }
 
 // A decimal number up to the byte that ends it.
-pub fn number(stop: u8) -> u64 {
+pub fn number(rt: &HostRuntime, stop: u8) -> u64 {
     let mut n: u64 = 0;
     let mut left = DIGITS;
-    let mut b = next_byte();
+    let mut b = next_byte(rt);
     while left > 0 && b'0' <= b && b <= b'9' {
         n = shifted(n, b);
-        b = next_byte();
+        b = next_byte(rt);
         left -= 1;
     }
     if left == DIGITS {
@@ -61,10 +76,10 @@ pub fn separator(last: bool) -> u8 {
 }
 
 // Are these the next bytes of the input? It is read up to the first that differs.
-pub fn follows(expected: &[u8]) -> bool {
+pub fn follows(rt: &HostRuntime, expected: &[u8]) -> bool {
     let mut i = 0;
     while i < expected.len() {
-        if next_byte() != expected[i] {
+        if next_byte(rt) != expected[i] {
             return false;
         }
         i += 1;
@@ -73,27 +88,27 @@ pub fn follows(expected: &[u8]) -> bool {
 }
 
 // The habit of a call, and the space behind it.
-pub fn habit() -> u32 {
-    let first = next_byte();
-    if first == b'r' && follows(b"ule ") {
+pub fn habit(rt: &HostRuntime) -> u32 {
+    let first = next_byte(rt);
+    if first == b'r' && follows(rt, b"ule ") {
         return RULE;
     }
-    if first == b'a' && follows(b"rchive ") {
+    if first == b'a' && follows(rt, b"rchive ") {
         return ARCHIVE;
     }
-    if first == b's' && follows(b"hop ") {
+    if first == b's' && follows(rt, b"hop ") {
         return SHOP;
     }
     NO_HABIT
 }
 
 // Reads so many bytes into the start of a buffer, and a line end behind them; false where they are not there or find no room.
-pub fn fill(buffer: &mut [u8], size: usize) -> bool {
+pub fn fill(rt: &HostRuntime, buffer: &mut [u8], size: usize) -> bool {
     if buffer.len() <= size {
         return false;
     }
     let end = size + 1;
-    if io::read_full(0, &mut buffer[..end]) != end {
+    if read_full(rt, &mut buffer[..end]) != end {
         return false;
     }
     buffer[size] == b'\n'

@@ -137,6 +137,7 @@ fn buffers(out: &mut [u8], id: u64, words: &[u32], others: &[u32]) -> usize {
 
 // Writes the lines of one joining at once.
 fn write(
+    rt: &HostRuntime,
     id: u64,
     first: &[u8],
     second: &[u8],
@@ -149,11 +150,12 @@ fn write(
     let p = buffers(&mut out, id, words, others);
     let q = result(&mut out, p, first, second, answer, number);
     let end = out::bytes(&mut out, q, b"\n");
-    io::write_all(1, text::part::part(&out, 0, end));
+    out::print(rt, text::part::part(&out, 0, end));
 }
 
 // Makes the call with so many words for each text and writes its answer; false where there are fewer.
 fn call(
+    rt: &HostRuntime,
     head: Head,
     first: &[u8],
     second: &[u8],
@@ -180,33 +182,34 @@ fn call(
         &mut others[..head.others],
         &mut answer,
     );
-    write(head.id, first, second, words, others, &answer, number);
+    write(rt, head.id, first, second, words, others, &answer, number);
     true
 }
 
 // Reads what follows the sizes into the starts of two buffers; false where it is not there.
-fn fill(one: &mut [u8], size: usize, two: &mut [u8], other: usize) -> bool {
-    if !input::fill(one, size) {
+fn fill(rt: &HostRuntime, one: &mut [u8], size: usize, two: &mut [u8], other: usize) -> bool {
+    if !input::fill(rt, one, size) {
         return false;
     }
-    input::fill(two, other)
+    input::fill(rt, two, other)
 }
 
 // Reads what follows the first line, and makes the call; false where it is not there.
-fn run(head: Head) -> bool {
+fn run(rt: &HostRuntime, head: Head) -> bool {
     let mut words = [layout::UNTOUCHED; crate::WORDS];
     let mut others = [layout::UNTOUCHED; crate::WORDS];
     let mut first = [0u8; crate::BYTES];
     let mut second = [0u8; crate::BYTES];
     let mut sheet = [0u8; crate::BYTES];
     let mut topics = [0u8; crate::BYTES];
-    if !fill(&mut first, head.first, &mut second, head.second) {
+    if !fill(rt, &mut first, head.first, &mut second, head.second) {
         return false;
     }
-    if !fill(&mut sheet, head.sheet, &mut topics, head.topics) {
+    if !fill(rt, &mut sheet, head.sheet, &mut topics, head.topics) {
         return false;
     }
     call(
+        rt,
         head,
         text::part::part(&first, 0, head.first),
         text::part::part(&second, 0, head.second),
@@ -218,16 +221,16 @@ fn run(head: Head) -> bool {
 }
 
 // What follows `join `; false where it is no such line.
-pub fn rest() -> bool {
-    let id = input::number(b' ');
-    let words = input::number(b' ');
-    let others = input::number(b' ');
-    let party = input::number(b' ');
-    let primary = input::number(b' ');
-    let first = input::number(b' ');
-    let second = input::number(b' ');
-    let sheet = input::number(b' ');
-    let topics = input::number(b'\n');
+pub fn rest(rt: &HostRuntime) -> bool {
+    let id = input::number(rt, b' ');
+    let words = input::number(rt, b' ');
+    let others = input::number(rt, b' ');
+    let party = input::number(rt, b' ');
+    let primary = input::number(rt, b' ');
+    let first = input::number(rt, b' ');
+    let second = input::number(rt, b' ');
+    let sheet = input::number(rt, b' ');
+    let topics = input::number(rt, b'\n');
     if id == input::NONE {
         return false;
     }
@@ -237,15 +240,18 @@ pub fn rest() -> bool {
     if crate::MOST < primary {
         return false;
     }
-    run(Head {
-        id,
-        words: words as usize,
-        others: others as usize,
-        party: party as u8,
-        primary: primary as u8,
-        first: first as usize,
-        second: second as usize,
-        sheet: sheet as usize,
-        topics: topics as usize,
-    })
+    run(
+        rt,
+        Head {
+            id,
+            words: words as usize,
+            others: others as usize,
+            party: party as u8,
+            primary: primary as u8,
+            first: first as usize,
+            second: second as usize,
+            sheet: sheet as usize,
+            topics: topics as usize,
+        },
+    )
 }

@@ -1,4 +1,6 @@
 // The replay program: reads cases and calls, hands each to the reader, and writes one answer for each. docs/REPLAY.md has its format.
+#![tactic(auto)]
+
 mod chain;
 mod converting;
 mod forms;
@@ -77,6 +79,7 @@ fn read(
 
 // Calls the reader with so many words and writes its answer; false where there are fewer.
 fn call(
+    rt: &HostRuntime,
     names: Names,
     id: u64,
     text: &[u8],
@@ -90,7 +93,7 @@ fn call(
     }
     let mut answer = [layout::UNTOUCHED; layout::ANSWER];
     let number = read(names, text, sheet, lent, &mut words[..count], &mut answer);
-    report::case(id, text, words, &answer, number);
+    report::case(rt, id, text, words, &answer, number);
     true
 }
 
@@ -104,30 +107,31 @@ fn named(head: Head, sheet: &[u8]) -> Names {
 }
 
 // Reads the topics of a call into the start of a buffer; false where they are not there. A case has none.
-fn fill_topics(buffer: &mut [u8], head: Head) -> bool {
+fn fill_topics(rt: &HostRuntime, buffer: &mut [u8], head: Head) -> bool {
     if head.is_case {
         return true;
     }
-    input::fill(buffer, head.topics)
+    input::fill(rt, buffer, head.topics)
 }
 
 // Reads what follows the first line, and makes the call; false where it is not there.
-fn run(head: Head) -> bool {
+fn run(rt: &HostRuntime, head: Head) -> bool {
     let mut words = [layout::UNTOUCHED; WORDS];
     let mut text = [0u8; BYTES];
     let mut sheet = [0u8; BYTES];
     let mut topics = [0u8; BYTES];
-    if !input::fill(&mut text, head.text) {
+    if !input::fill(rt, &mut text, head.text) {
         return false;
     }
-    if !input::fill(&mut sheet, head.sheet) {
+    if !input::fill(rt, &mut sheet, head.sheet) {
         return false;
     }
-    if !fill_topics(&mut topics, head) {
+    if !fill_topics(rt, &mut topics, head) {
         return false;
     }
     let sheet = text::part::part(&sheet, 0, head.sheet);
     call(
+        rt,
         named(head, sheet),
         head.id,
         text::part::part(&text, 0, head.text),
@@ -139,39 +143,42 @@ fn run(head: Head) -> bool {
 }
 
 // What follows `case ` in a case, which is the archive loader's call; false where it is none.
-fn rest_of_case() -> bool {
-    let id = input::number(b' ');
-    let words = input::number(b' ');
-    let text = input::number(b' ');
-    let sheet = input::number(b'\n');
+fn rest_of_case(rt: &HostRuntime) -> bool {
+    let id = input::number(rt, b' ');
+    let words = input::number(rt, b' ');
+    let text = input::number(rt, b' ');
+    let sheet = input::number(rt, b'\n');
     if id == input::NONE {
         return false;
     }
-    run(Head {
-        names: Names {
-            habit: input::ARCHIVE,
-            party: 0,
-            primary: 0,
+    run(
+        rt,
+        Head {
+            names: Names {
+                habit: input::ARCHIVE,
+                party: 0,
+                primary: 0,
+            },
+            id,
+            words: words as usize,
+            text: text as usize,
+            sheet: sheet as usize,
+            is_case: true,
+            topics: 0,
         },
-        id,
-        words: words as usize,
-        text: text as usize,
-        sheet: sheet as usize,
-        is_case: true,
-        topics: 0,
-    })
+    )
 }
 
 // What follows `call ` in a call; false where it is none.
-fn rest_of_call() -> bool {
-    let id = input::number(b' ');
-    let habit = input::habit();
-    let words = input::number(b' ');
-    let party = input::number(b' ');
-    let primary = input::number(b' ');
-    let text = input::number(b' ');
-    let sheet = input::number(b' ');
-    let topics = input::number(b'\n');
+fn rest_of_call(rt: &HostRuntime) -> bool {
+    let id = input::number(rt, b' ');
+    let habit = input::habit(rt);
+    let words = input::number(rt, b' ');
+    let party = input::number(rt, b' ');
+    let primary = input::number(rt, b' ');
+    let text = input::number(rt, b' ');
+    let sheet = input::number(rt, b' ');
+    let topics = input::number(rt, b'\n');
     if id == input::NONE {
         return false;
     }
@@ -184,64 +191,67 @@ fn rest_of_call() -> bool {
     if MOST < primary {
         return false;
     }
-    run(Head {
-        names: Names {
-            habit,
-            party: party as u8,
-            primary: primary as u8,
+    run(
+        rt,
+        Head {
+            names: Names {
+                habit,
+                party: party as u8,
+                primary: primary as u8,
+            },
+            id,
+            words: words as usize,
+            text: text as usize,
+            sheet: sheet as usize,
+            is_case: false,
+            topics: topics as usize,
         },
-        id,
-        words: words as usize,
-        text: text as usize,
-        sheet: sheet as usize,
-        is_case: false,
-        topics: topics as usize,
-    })
+    )
 }
 
 // What follows the first word; false where that is none of `case `, `call `, `join `, `next `, `rows `, `back ` and `write`.
-fn rest(first: &[u8]) -> bool {
+fn rest(rt: &HostRuntime, first: &[u8]) -> bool {
     if text::part::same(first, b"case ") {
-        return rest_of_case();
+        return rest_of_case(rt);
     }
     if text::part::same(first, b"call ") {
-        return rest_of_call();
+        return rest_of_call(rt);
     }
     if text::part::same(first, b"join ") {
-        return joining::rest();
+        return joining::rest(rt);
     }
     if text::part::same(first, b"next ") {
-        return chain::rest();
+        return chain::rest(rt);
     }
     if text::part::same(first, b"rows ") {
-        return converting::rest_of_rows();
+        return converting::rest_of_rows(rt);
     }
     if text::part::same(first, b"back ") {
-        return converting::rest_of_back();
+        return converting::rest_of_back(rt);
     }
     if text::part::same(first, b"write") {
-        return written::rest();
+        return written::rest(rt);
     }
     false
 }
 
 // One case, call, joining, chain, conversion or writing; false at the end of the input, and where it is none of them.
-fn one_case() -> bool {
+fn one_case(rt: &HostRuntime) -> bool {
     let mut first = [0u8; 5];
-    if io::read_full(0, &mut first) == 0 {
+    if input::read_full(rt, &mut first) == 0 {
         return false;
     }
-    if rest(&first) {
+    if rest(rt, &first) {
         return true;
     }
-    io::write_all(1, b"bad input\n");
+    out::print(rt, b"bad input\n");
     false
 }
 
 // A proved loop has to end, and nothing says that the input does: it counts down from a number that no run uses up.
-fn main() {
+fn main(rt: HostRuntime) {
     let mut left: u64 = 18446744073709551615;
-    while left > 0 && one_case() {
+    while left > 0 && one_case(&rt) {
         left -= 1;
     }
 }

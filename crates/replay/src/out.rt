@@ -1,5 +1,15 @@
-// Lines of output, gathered in a lent buffer from an index on. Each function answers the index behind what it wrote; what finds no room is left out.
+// Lines of output, gathered in a lent buffer from an index on. Each function that is lent one answers the index behind what it wrote; what finds no room is left out.
+ghost use Rattle.std.specs.Prelude.{◌<◌};
+
 use crate::layout;
+
+// Writes bytes to standard output at once; what can't be written is lost.
+pub fn print(rt: &HostRuntime, w: &[u8]) {
+    match rt.write_all(w) {
+        Ok(()) => {}
+        Err(_) => {}
+    }
+}
 
 pub fn bytes(out: &mut [u8], at: usize, w: &[u8]) -> usize {
     let mut p = at;
@@ -27,12 +37,27 @@ pub fn word(out: &mut [u8], at: usize, w: &[u8]) -> usize {
     bytes(out, p, w)
 }
 
+// The decimal digits of a number, at the end of a buffer that has room for those of any; the index of the first.
+fn decimal(n: u64, digits: &mut [u8; 20]) -> usize
+    ensures { result < 20 }
+{
+    let mut i = 19;
+    let mut rest = n;
+    digits[19] = b'0' + (rest % 10) as u8;
+    while i > 0 && rest > 9 {
+        i -= 1;
+        rest = rest / 10;
+        digits[i] = b'0' + (rest % 10) as u8;
+    }
+    i
+}
+
 // A number with what stands before it.
 pub fn number(out: &mut [u8], at: usize, before: &[u8], n: u64) -> usize {
     let mut digits = [0u8; 20];
-    let k = io::decimal(n, &mut digits);
+    let first = decimal(n, &mut digits);
     let p = bytes(out, at, before);
-    bytes(out, p, &digits[..k])
+    bytes(out, p, &digits[first..])
 }
 
 // A space and a signed number of two words.
@@ -44,10 +69,17 @@ pub fn signed(out: &mut [u8], at: usize, low: u32, high: u32) -> usize {
     number(out, at, b" -", std::num::wrapping_sub_u64(0, n))
 }
 
+// A hexadecimal digit, in lower case.
+fn hex_digit(value: u8) -> u8 {
+    let low = value % 16;
+    if low < 10 {
+        return b'0' + low;
+    }
+    b'a' + (low - 10)
+}
+
 fn pair(out: &mut [u8], at: usize, b: u8) -> usize {
-    let mut digits = [0u8; 16];
-    let k = io::hex(b as u64, 2, &mut digits);
-    bytes(out, at, &digits[..k])
+    bytes(out, at, &[hex_digit(b / 16), hex_digit(b % 16)])
 }
 
 // A space, `x` and bytes in hex.

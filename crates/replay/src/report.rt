@@ -101,8 +101,8 @@ fn lines(
 }
 
 // Writes the lines of one case at once.
-pub fn case(id: u64, text: &[u8], words: &[u32], answer: &[u32], number: u32) {
+pub fn case(rt: &HostRuntime, id: u64, text: &[u8], words: &[u32], answer: &[u32], number: u32) {
     let mut out = [0u8; ROOM];
     let end = lines(&mut out, id, text, words, answer, number);
-    io::write_all(1, text::part::part(&out, 0, end));
+    out::print(rt, text::part::part(&out, 0, end));
 }

@@ -42,11 +42,11 @@ struct Head {
 }
 
 // Reads a line of as many numbers of one word as a buffer has room for; false where it is none.
-pub fn fill(numbers: &mut [u32]) -> bool {
+pub fn fill(rt: &HostRuntime, numbers: &mut [u32]) -> bool {
     let count = numbers.len();
     let mut i = 0;
     while i < count {
-        let n = input::number(input::separator(i + 1 == count));
+        let n = input::number(rt, input::separator(i + 1 == count));
         if layout::VALUES <= n {
             return false;
         }
@@ -156,14 +156,15 @@ fn lines(out: &mut [u8], id: u64, buffer: &[u8], w: Written) -> usize {
 }
 
 // Writes the lines of one writing, or of one conversion back, at once.
-pub fn write(id: u64, buffer: &[u8], w: Written) {
+pub fn write(rt: &HostRuntime, id: u64, buffer: &[u8], w: Written) {
     let mut out = [0u8; ROOM];
     let end = lines(&mut out, id, buffer, w);
-    io::write_all(1, text::part::part(&out, 0, end));
+    out::print(rt, text::part::part(&out, 0, end));
 }
 
 // Makes the call with so many bytes and writes its answer; false where there are fewer.
 fn call(
+    rt: &HostRuntime,
     head: Head,
     first: &[u8],
     second: &[u8],
@@ -183,30 +184,31 @@ fn call(
         lists(numbers),
         &mut buffer[..head.size],
     );
-    write(head.id, buffer, w);
+    write(rt, head.id, buffer, w);
     true
 }
 
 // Reads what follows the first line, and makes the call; false where it is not there.
-fn run(head: Head) -> bool {
+fn run(rt: &HostRuntime, head: Head) -> bool {
     let mut first = [0u8; crate::BYTES];
     let mut second = [0u8; crate::BYTES];
     let mut sheet = [0u8; crate::BYTES];
     let mut numbers = [0; NUMBERS];
     let mut buffer = [UNTOUCHED; MOST_SIZE];
-    if !input::fill(&mut first, head.first) {
+    if !input::fill(rt, &mut first, head.first) {
         return false;
     }
-    if !input::fill(&mut second, head.second) {
+    if !input::fill(rt, &mut second, head.second) {
         return false;
     }
-    if !input::fill(&mut sheet, head.sheet) {
+    if !input::fill(rt, &mut sheet, head.sheet) {
         return false;
     }
-    if !fill(&mut numbers) {
+    if !fill(rt, &mut numbers) {
         return false;
     }
     call(
+        rt,
         head,
         text::part::part(&first, 0, head.first),
         text::part::part(&second, 0, head.second),
@@ -217,17 +219,17 @@ fn run(head: Head) -> bool {
 }
 
 // What follows `write`; false where it is no such line.
-pub fn rest() -> bool {
-    if !input::follows(b" ") {
+pub fn rest(rt: &HostRuntime) -> bool {
+    if !input::follows(rt, b" ") {
         return false;
     }
-    let id = input::number(b' ');
-    let size = input::number(b' ');
-    let party = input::number(b' ');
-    let primary = input::number(b' ');
-    let first = input::number(b' ');
-    let second = input::number(b' ');
-    let sheet = input::number(b'\n');
+    let id = input::number(rt, b' ');
+    let size = input::number(rt, b' ');
+    let party = input::number(rt, b' ');
+    let primary = input::number(rt, b' ');
+    let first = input::number(rt, b' ');
+    let second = input::number(rt, b' ');
+    let sheet = input::number(rt, b'\n');
     if id == input::NONE {
         return false;
     }
@@ -237,13 +239,16 @@ pub fn rest() -> bool {
     if crate::MOST < primary {
         return false;
     }
-    run(Head {
-        id,
-        size: size as usize,
-        party: party as u8,
-        primary: primary as u8,
-        first: first as usize,
-        second: second as usize,
-        sheet: sheet as usize,
-    })
+    run(
+        rt,
+        Head {
+            id,
+            size: size as usize,
+            party: party as u8,
+            primary: primary as u8,
+            first: first as usize,
+            second: second as usize,
+            sheet: sheet as usize,
+        },
+    )
 }

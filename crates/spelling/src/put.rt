@@ -11,7 +11,9 @@ pub fn put(out: &mut [u8], at: usize, new: &[u8]) -> usize
     requires { Fits out.old at new.now }
     ensures { Put out.old at new.now out.new result }
 {
-    at + bytes::copy(new, &mut out[at..])
+    let end = at + new.len();
+    out[at..end].copy_from_slice(new);
+    end
 }
 
 // A string, in quotes.
