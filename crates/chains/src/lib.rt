@@ -1,4 +1,6 @@
 // Document 02, §13: every chain of one to four conditions of at most fifteen tokens over the vocabulary, one after the other (specs/Listed.antt).
+#![tactic(auto)]
+
 mod place;
 
 ghost use Rattle.std.specs.Prelude.{◌≡◌, ◌≤◌, ltb, length};

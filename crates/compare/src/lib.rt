@@ -1,4 +1,6 @@
 // Entries compared as document 02 §3 says: by record, names and other strings by bytes. Nothing is copied: a name is a part of the text in which it stands.
+#![tactic(auto)]
+
 ghost use Rattle.std.specs.Prelude.{◌≡◌, ◌<◌, ◌≤◌};
 ghost use Rattle.text.specs.Part.{same_bytes};
 ghost use Rattle.topics.specs.Ranges.{name_in};

@@ -1,4 +1,6 @@
 // Joining two rules (specs/Join.antt): both are read, and the triggers of the second that are not yet there come behind those of the first.
+#![tactic(auto)]
+
 ghost use Rattle.std.specs.Prelude.{◌≡◌, [], ◌++◌, ◌+◌, ◌≤◌, ◌<◌, length};
 ghost use Rattle.topics.specs.Topics.{lent_topics};
 ghost use Rattle.model.specs.Lists.{refused_with};

@@ -1,1 +1,2 @@
 // The language of rules, with no code: which readings a text has, what is answered, and the theorem between the two.
+#![tactic(auto)]

@@ -1,1 +1,2 @@
 // What is written reads back: laws alone, with no code.
+#![tactic(auto)]

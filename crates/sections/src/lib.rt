@@ -1,4 +1,6 @@
 // The sections of a rule: values, time bounds, triggers and conditions.
+#![tactic(auto)]
+
 pub mod condition;
 pub mod expr;
 pub mod first;

@@ -1,4 +1,6 @@
 // The library for C and Rust: numbers and slices only. A slice is passed as a pointer and a length.
+#![tactic(auto)]
+
 pub mod chain;
 pub mod converting;
 pub mod joining;

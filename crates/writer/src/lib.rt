@@ -1,4 +1,6 @@
 // The two lists written out as a rule text (document 02, §7).
+#![tactic(auto)]
+
 mod choices;
 mod conditions;
 mod rule;

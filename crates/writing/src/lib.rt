@@ -1,4 +1,6 @@
 // What is written for the two lists (document 02, §7): definitions, and the values of the call.
+#![tactic(auto)]
+
 use model::{Condition, Trigger};
 
 // An entry, and the text in which its names stand: 1 for the first, 2 for the second.
