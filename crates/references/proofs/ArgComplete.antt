@@ -17,7 +17,7 @@ use Rattle.references.specs.Refs.{scope_or_primary}
 use Rattle.references.specs.Arguments.{no_slot, dev_slot, inst_slot}
 use Rattle.references.specs.Args.{slot_of, is_named, key_slot, named_slot, unnamed_slot, slot_at, type_word, input_type_value, device_item, instance_item, group_item, type_item, adapter_item, item_at, is_repeat, put, no_args, arg_at, count_with, device_instance, with_inst, with_dev, is_dev, is_number, with_group, selected, close_args, input_selector, one_instance, input_ref}
 use Rattle.tokens.specs.Grammar.{Token, token, Word, a_word, UpTo, up_to}
-use Rattle.references.specs.Grammar.{slot, quoted, NameOrId, name, id, Adapter, TypeOf, number, button, absolute, occupancy, light, Arg, first, second, ArgList, one, more, OnAdapter, primary, given, Selects, instance, instances, ArgsOf, args, OneInstance, one_instance_rule}
+use Rattle.references.specs.Grammar.{slot, quoted, NameOrIdOf, name, id, Adapter, TypeOf, number, button, absolute, occupancy, light, Arg, first, second, ArgList, one, more, OnAdapter, primary, given, Selects, instance, instances, ArgsOf, args, OneInstance, one_instance_rule}
 use Rattle.sheet.specs.declared.resolve.Scope.{Scope}
 use Rattle.references.specs.declared.refs.NameOrId.{NameOrId}
 use Rattle.references.specs.declared.args.Item.{Item}
@@ -39,7 +39,7 @@ word_next (a_word p q) = omega arith
 up_to-next : {t : ℕ → Tok} {most i n j : ℕ} → UpTo t most i n j → i < j
 up_to-next (up_to h l) = token-next h
 
-name_or_id-next : {t : ℕ → Tok} {view : View} {i j : ℕ} {d : NameOrId} → NameOrId t view i d j → i < j
+name_or_id-next : {t : ℕ → Tok} {view : View} {i j : ℕ} {d : NameOrId} → NameOrIdOf t view i d j → i < j
 name_or_id-next (name (quoted h a b)) = token-next h
 name_or_id-next (id h may) = token-next h
 
@@ -82,11 +82,11 @@ unnamed : (t : ℕ → Tok) {i kind : ℕ} → eqb kind 1 ≡ false → (t i).ki
 unfolding is_named
 unnamed t {i} e p = rw (kind-no t 1 i (not-kind t 1 e p))
 
-first_slot : {t : ℕ → Tok} {view : View} {i j : ℕ} {d : NameOrId} → NameOrId t view i d j → Slot t 0 i dev_slot 1 i
+first_slot : {t : ℕ → Tok} {view : View} {i j : ℕ} {d : NameOrId} → NameOrIdOf t view i d j → Slot t 0 i dev_slot 1 i
 unfolding slot_at unnamed_slot count_with
 first_slot {t} {view} {i} h = record { answered = rw (not_named h); counted = rw (not_named h); behind = omega arith }
   where
-    not_named : {j : ℕ} {d : NameOrId} → NameOrId t view i d j → is_named t i ≡ false
+    not_named : {j : ℕ} {d : NameOrId} → NameOrIdOf t view i d j → is_named t i ≡ false
     not_named (name (quoted (token p) a b)) = unnamed t refl p
     not_named (id (token p) may) = unnamed t refl p
 
@@ -119,13 +119,15 @@ pub items-complete : {t : ℕ → Tok} {view : View} {m i j : ℕ} {xs : List It
 unfolding items_from
 items-complete zero a l n f (one h) = absurd (omega arith)
 items-complete zero a l n f (more h c g) = absurd (omega arith)
+items-complete (suc fuel) a l n fresh_end h = elim h [ ]
 items-complete {t} {j = j} (suc fuel) a l n (fresh f fs) (one h) = let p = arg-complete a f h in rw (p.0, kind-no t 11 j n)
-items-complete {t} (suc fuel) a l n (fresh {x = x} f fs) (more h (token p) g) =
+items-complete {t} {m = m} (suc fuel) a l n (fresh {x = x} f fs) (more {n = n'} h (token p) g) =
     let q = arg-complete a f h in
-    rw (q.0, kind-yes t refl p, q.1, items-complete fuel (put a x) (omega arith) n fs g)
+    rw (q.0, kind-yes t refl p, q.1, items-complete {m = n'} fuel (put a x) (omega arith) n fs g)
 
 items-next : {t : ℕ → Tok} {view : View} {a : Args} {m i j : ℕ} {xs : List Item} → Fresh view.repeats a xs → ArgList t view m i xs j →
     i + length xs ≤ j
+items-next fresh_end h = elim h [ ]
 items-next {a = a} (fresh f fs) (one h) = let p = arg-complete a f h in omega arith
 items-next {a = a} (fresh f fs) (more h c g) = let p = arg-complete a f h in omega (arith, token-next c, items-next fs g)
 

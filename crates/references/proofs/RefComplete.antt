@@ -14,7 +14,7 @@ use Rattle.sheet.specs.View.{View}
 use Rattle.model.specs.Limits.{longest_name}
 use Rattle.references.specs.Refs.{checked_name, closed_name, quoted_name, name_or_id, adapter_number, adapter_assign, adapter_clause, scope_or_primary, found_at, referred, close_r, open_r, reference, lamp_ref, group_ref, device_ref, dev_name, input_device_ref, lamp_target, group_target, broadcast_target, light_target}
 use Rattle.tokens.specs.Grammar.{Token, token, Word, a_word}
-use Rattle.references.specs.Grammar.{Quoted, quoted, Q, q, NameOrId, name, id, Adapter, Clause, no_clause, clause, Refers, row, on_primary, on_adapter_rule, Inside, inside, R, r, Lamp, Group, Device, InputDevice, plain, with_dev_rule, Target, lamp, broadcast}
+use Rattle.references.specs.Grammar.{Quoted, quoted, Q, q, NameOrIdOf, name, id, Adapter, Clause, no_clause, clause, Refers, row, on_primary, on_adapter_rule, Inside, inside, R, r, Lamp, Group, Device, InputDevice, plain, with_dev_rule, Target, lamp, broadcast}
 use Rattle.sheet.specs.declared.resolve.Scope.{Scope}
 use Rattle.model.specs.declared.Ref.{Ref}
 use Rattle.references.specs.declared.refs.NameOrId.{NameOrId}
@@ -35,12 +35,12 @@ quoted-kind : {t : ℕ → Tok} {i j : ℕ} → Quoted t i j → (t i).kind ≡ 
 quoted-kind (quoted h some few) = token-kind h
 
 -- a name or an id does not begin with a word
-pub name_or_id-no_word : {t : ℕ → Tok} {view : View} (word : List ℕ) {i j : ℕ} {target : NameOrId} → NameOrId t view i target j →
+pub name_or_id-no_word : {t : ℕ → Tok} {view : View} (word : List ℕ) {i j : ℕ} {target : NameOrId} → NameOrIdOf t view i target j →
     is_word t word i ≡ false
 name_or_id-no_word {t} word (name h) = word_none t word refl (quoted-kind h)
 name_or_id-no_word {t} word (id h may) = word_none t word refl (token-kind h)
 
-pub name_or_id-complete : {t : ℕ → Tok} {view : View} {i j : ℕ} {target : NameOrId} → NameOrId t view i target j →
+pub name_or_id-complete : {t : ℕ → Tok} {view : View} {i j : ℕ} {target : NameOrId} → NameOrIdOf t view i target j →
     name_or_id t view i ≡ ok target j
 unfolding name_or_id
 name_or_id-complete {t} (name h) = simp (kind-yes t refl (quoted-kind h), checked_name-complete h)

@@ -15,7 +15,7 @@ use Rattle.sheet.specs.Picks.{Picks}
 use Rattle.sheet.specs.Resolve.{pick_named}
 use Rattle.references.specs.Refs.{checked_name, closed_name, quoted_name, name_or_id, adapter_number, adapter_assign, adapter_clause, scope_or_primary, found_at, referred, close_r, open_r, reference, lamp_ref, group_ref, device_ref, dev_name, input_device_ref, lamp_target, group_target, broadcast_target, light_target}
 use Rattle.tokens.specs.Grammar.{Token, Word}
-use Rattle.references.specs.Grammar.{Quoted, quoted, Q, q, NameOrId, name, id, Adapter, Clause, no_clause, clause, Refers, row, on_primary, on_adapter_rule, Inside, inside, R, r, Lamp, Group, Device, InputDevice, plain, with_dev_rule, Target, lamp, broadcast}
+use Rattle.references.specs.Grammar.{Quoted, quoted, Q, q, NameOrIdOf, name, id, Adapter, Clause, no_clause, clause, Refers, row, on_primary, on_adapter_rule, Inside, inside, R, r, Lamp, Group, Device, InputDevice, plain, with_dev_rule, Target, lamp, broadcast}
 use Rattle.sheet.specs.declared.resolve.Scope.{Scope}
 use Rattle.sheet.specs.declared.resolve.Scope.TheVariants.{Any, On}
 use Rattle.sheet.specs.declared.resolve.Found.{Found}
@@ -51,10 +51,10 @@ quoted-sound t i =
     bind_ok G (checked_name t j) _ (checked_name-sound t j)
     (λ n k h. bind_ok G (take_kind t 8 k) _ (kind-sound t 8 k) (λ b l right. q left h right)))
 
-pub name_or_id-sound : (t : ℕ → Tok) (view : View) (i : ℕ) → Okay (NameOrId t view i) (name_or_id t view i)
+pub name_or_id-sound : (t : ℕ → Tok) (view : View) (i : ℕ) → Okay (NameOrIdOf t view i) (name_or_id t view i)
 unfolding name_or_id
 name_or_id-sound t view i =
-    let G = NameOrId t view i in
+    let G = NameOrIdOf t view i in
     pick-ok G (is_kind t 2 i) _ _
     (λ e. bind_ok G (checked_name t i) _ (checked_name-sound t i) (λ n j h. name h))
     (λ e.

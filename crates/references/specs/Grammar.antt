@@ -1,7 +1,7 @@
 -- The grammar of references (document 01, "Grammar"): which readings the tokens t have with what is seen of the sheet. `Form t … i v j`: the tokens
 -- from i up to j read as v. No rule mentions a function of the reader or a definition of what is answered (Refs.antt, Args.antt); names and
 -- ids, adapters and arguments have the types that the reader has for them.
-use Rattle.std.specs.Prelude.{ℕ, ◌+◌, ◌≤◌, ◌≡◌, Bool, true, false, List, [], ◌∷◌, length}
+use Rattle.std.specs.Prelude.{ℕ, ◌≤◌, ◌≡◌, Bool, true, List, [], ◌∷◌, length}
 use Rattle.text.specs.Literal.{ascii}
 use Rattle.tokens.specs.Kind.{STRING, INTEGER, OPEN, CLOSE, COMMA, ASSIGN}
 use Rattle.tokens.specs.Cursor.{Tok}
@@ -32,9 +32,9 @@ pub data Q (t : ℕ → Tok) : ℕ → ℕ → ℕ → Type 0 where
   q : {i a j k b l : ℕ} → Token t OPEN i a j → Quoted t j k → Token t CLOSE k b l → Q t i j l
 
 -- a name, or an id where one may stand
-pub data NameOrId (t : ℕ → Tok) (view : View) : ℕ → NameOrId → ℕ → Type 0 where
-  name : {i j : ℕ} → Quoted t i j → NameOrId t view i (Name i) j
-  id : {i n j : ℕ} → Token t INTEGER i n j → view.allows i ≡ true → NameOrId t view i (Id n i) j
+pub data NameOrIdOf (t : ℕ → Tok) (view : View) : ℕ → NameOrId → ℕ → Type 0 where
+  name : {i j : ℕ} → Quoted t i j → NameOrIdOf t view i (Name i) j
+  id : {i n j : ℕ} → Token t INTEGER i n j → view.allows i ≡ true → NameOrIdOf t view i (Id n i) j
 
 -- A, a listed adapter
 pub data Adapter (t : ℕ → Tok) (view : View) : ℕ → ℕ → ℕ → Type 0 where
@@ -55,7 +55,7 @@ pub data Refers (t : ℕ → Tok) (view : View) (kind most : ℕ) : NameOrId →
 
 -- name or id, perhaps `, adapter = A` `)`
 pub data Inside (t : ℕ → Tok) (view : View) (kind most : ℕ) : ℕ → Ref → ℕ → Type 0 where
-  inside : {i j k b l : ℕ} {target : NameOrId} {scope : Scope} {r : Ref} → NameOrId t view i target j → Clause t view j scope k →
+  inside : {i j k b l : ℕ} {target : NameOrId} {scope : Scope} {r : Ref} → NameOrIdOf t view i target j → Clause t view j scope k →
       Token t CLOSE k b l → Refers t view kind most target scope r → Inside t view kind most i r l
 
 -- R is `(` name or id, perhaps `, adapter = A` `)`
@@ -93,7 +93,7 @@ pub data TypeOf (t : ℕ → Tok) : ℕ → ℕ → ℕ → Type 0 where
 
 -- one argument behind m unnamed ones; n unnamed ones are there with it. Unnamed ones are dev, then inst.
 pub data Arg (t : ℕ → Tok) (view : View) : ℕ → ℕ → Item → ℕ → ℕ → Type 0 where
-  dev : {m i j a k l : ℕ} {d : NameOrId} → Word t (ascii "dev") i j → Token t ASSIGN j a k → NameOrId t view k d l →
+  dev : {m i j a k l : ℕ} {d : NameOrId} → Word t (ascii "dev") i j → Token t ASSIGN j a k → NameOrIdOf t view k d l →
       Arg t view m i (Item.Device d) m l
   inst : {m i j a k n l : ℕ} → Word t (ascii "inst") i j → Token t ASSIGN j a k → UpTo t last_instance k n l →
       Arg t view m i (Item.Instance n) m l
@@ -103,7 +103,7 @@ pub data Arg (t : ℕ → Tok) (view : View) : ℕ → ℕ → Item → ℕ → 
       Arg t view m i (Item.Type n) m l
   adapter : {m i j a k n l : ℕ} → Word t (ascii "adapter") i j → Token t ASSIGN j a k → Adapter t view k n l →
       Arg t view m i (Item.Adapter n) m l
-  first : {i j : ℕ} {d : NameOrId} → NameOrId t view i d j → Arg t view 0 i (Item.Device d) 1 j
+  first : {i j : ℕ} {d : NameOrId} → NameOrIdOf t view i d j → Arg t view 0 i (Item.Device d) 1 j
   second : {i n j : ℕ} → UpTo t last_instance i n j → Arg t view 1 i (Item.Instance n) 2 j
 
 -- arguments parted by commas
