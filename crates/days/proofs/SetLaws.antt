@@ -2,7 +2,7 @@
 use Prim.Native.Nat.{ℕ, suc, ◌-◌}
 use mathlib.Core.Path.{◌≡◌, ◌∙◌, refl, ap, sym}
 use native.Mathlib.Omega.{arith}
-use Rattle.tokens.specs.Result.{Res, ok, no, bind, perhaps}
+use Rattle.tokens.specs.Result.{Res, ok, bind, perhaps}
 use Rattle.tokens.specs.Cursor.{Tok, is_kind, accepted}
 use Rattle.tokens.specs.Kind.{COMMA}
 use Rattle.tokens.specs.declared.cursor.Cursor.{Cursor}

@@ -1,4 +1,6 @@
 // Day sets, ported from timeval.rs's day_set; what the days and the ranges are is document 02's.
+#![tactic(auto)]
+
 ghost use Rattle.std.specs.Prelude.{◌≡◌, ◌≤◌};
 ghost use Rattle.tokens.specs.Cursor.{tokens, to_taken};
 ghost use Rattle.tokens.specs.Record.{capacity};

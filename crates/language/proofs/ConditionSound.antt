@@ -5,8 +5,8 @@ use lib.ListN.{length}
 use borrow.Author.Tests.{eqb-true, ltb-false}
 use Rattle.text.specs.Literal.{ascii}
 use Rattle.text.specs.Split.{split}
-use Rattle.tokens.specs.Result.{Res, ok, bind}
-use Rattle.tokens.specs.Cursor.{Tok, is_kind, is_word}
+use Rattle.tokens.specs.Result.{ok, bind}
+use Rattle.tokens.specs.Cursor.{Tok, is_kind}
 use Rattle.tokens.specs.Phrase.{words_in}
 use Rattle.tokens.specs.Grammar.{Token, token, Word, Phrase, the_first, the_second}
 use Rattle.tokens.proofs.Okay.{Okay, bind_ok, pick-ok}
@@ -23,7 +23,6 @@ use Rattle.model.specs.declared.LightTarget.{LightTarget}
 use Rattle.model.specs.declared.Value.{Value}
 use Rattle.model.specs.declared.Comparison.{Comparison}
 use Rattle.model.specs.declared.Hcl.{Hcl}
-use Rattle.model.specs.declared.Condition.{Condition}
 use Rattle.model.specs.declared.Condition.TheVariants.{HclState, LastFiredOlderThan, RuleEnabled, TimerRunning}
 use Rattle.days.specs.Read.{day_set}
 use Rattle.days.proofs.GrammarSound.{day_set-sound}
@@ -34,7 +33,7 @@ use Rattle.language.specs.Expr.{value_at}
 use Rattle.language.specs.Trigger.{power_of, crossing_of, occupancy_of, aggregate_of}
 use Rattle.language.specs.Condition.{comparison_by, comparison_at, controller_condition, timer_condition, rule_condition, last_fired_condition, device_condition, sun_of, sun_condition, time_to, time_condition, day_condition, group_condition, hcl_of, hcl_condition, lamp_property_of, lamp_judged, lamp_compared, lamp_point, lamp_state, lamp_condition, light_than, input_state, input_condition, text_operand, operand_at, var_compared, var_condition, condition_words, condition_by, condition_at}
 use Rattle.language.specs.grammar.Expr.{ValueOf}
-use Rattle.language.specs.grammar.Condition.{Compared, eq, ne, ge, le, gt, lt, LevelCct, EnabledOverridden, OperandOf, text, value, ConditionOf, controller_active, timer_running, rule_enabled, last_fired, device_online, sun_is, time_in, day_in, group_state, hcl_state, lamp_is, lamp_compare, input_occupancy, input_light, var_compare}
+use Rattle.language.specs.grammar.Condition.{Compared, eq, ne, ge, le, gt, lt, EnabledOverridden, OperandOf, text, value, ConditionOf, controller_active, timer_running, rule_enabled, last_fired, device_online, sun_is, time_in, day_in, group_state, hcl_state, lamp_is, lamp_compare, input_occupancy, input_light, var_compare}
 use Rattle.language.proofs.WordLaws.{then-kind, then-word, then-phrase, perhaps-word, one_token, NamedPhrase, named_phrase_rule, named-sound, ForTarget, for_target, for_sound, PointWord, point_word, point-sound}
 use Rattle.language.proofs.TimeLaws.{bound-sound}
 use Rattle.language.proofs.ExprLaws.{value-sound}

@@ -1,5 +1,4 @@
 -- Document 02, §6: what a call answers depends on nothing that is another party's (specs/Isolation.antt).
-use mathlib.Core.Path.{◌≡◌}
 use Rattle.sheet.proofs.PartyLaws.{agree-seen, agree-primary}
 use Rattle.language.specs.Read.{read_of}
 use Rattle.language.specs.Isolation.{Isolated}

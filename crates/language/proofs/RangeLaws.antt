@@ -1,6 +1,6 @@
 -- No reference and no day set in a reading is out of its kind's range, form by form.
 use Prim.Native.Nat.{ℕ, ◌≤◌}
-use mathlib.Core.List.{List, [], ◌∷◌}
+use mathlib.Core.List.{List}
 use Rattle.tokens.specs.Cursor.{Tok}
 use Rattle.model.specs.Ranges.{Each, InRange, EventInRange, TriggerInRange, ReadingInRange, ValueInRange, OperandInRange, ConditionInRange}
 use Rattle.sheet.specs.View.{View, seen}

@@ -10,7 +10,7 @@ use Rattle.text.specs.Choice.{pick}
 use Rattle.text.specs.Literal.{ascii}
 use Rattle.tokens.specs.Kind.{STRING, DURATION}
 use Rattle.tokens.specs.Result.{ok, bind}
-use Rattle.tokens.specs.Cursor.{Tok, tokens, is_word, is_kind, take_kind}
+use Rattle.tokens.specs.Cursor.{Tok, is_word, is_kind, take_kind}
 use Rattle.tokens.specs.Phrase.{choice_at}
 use Rattle.tokens.proofs.Okay.{token-kind, kind-sound}
 use Rattle.sheet.specs.View.{View}

@@ -81,8 +81,8 @@ module _ (t : ℕ → Tok) (word : List ℕ) (number : ℕ) {S A : Type 0} (Form
     repeated-complete zero l n b end kept = rw (n)
     repeated-complete (suc most) l n b end kept = rw (n)
     repeated-complete zero l n b (more w h r) kept = absurd (omega arith)
-    repeated-complete (suc most) {s} l n b (more {k = k} {x = x} (a_word p q) h r) (more_kept fine kept) =
-        rw (word-yes t (a_word p q), complete s _ k x (goes_on b r) h fine, repeated-complete most (omega arith) n b r kept)
+    repeated-complete {i = i} (suc most) {s} l n b (more {k = k} {x = x} (a_word p q) h r) (more_kept fine kept) =
+        rw (word-yes t (a_word p q), complete s _ k x (goes_on b r) h fine, repeated-complete {i = k} most (omega arith) n b r kept)
 
 -- behind a trigger stand `when`, `if` or the end, behind a condition `and` or the end
 word-stops : {t : ℕ → Tok} {word : List ℕ} {i j : ℕ} → same_bytes word (ascii "on") ≡ false → same_bytes word (ascii "is") ≡ false →

@@ -7,8 +7,8 @@ use Rattle.text.specs.Literal.{ascii}
 use Rattle.text.specs.Part.{same_bytes}
 use Rattle.text.specs.Split.{split}
 use Rattle.tokens.specs.Result.{ok}
-use Rattle.tokens.specs.Cursor.{Tok, is_kind, take_kind}
-use Rattle.tokens.specs.Phrase.{words_in, position, choice_at}
+use Rattle.tokens.specs.Cursor.{Tok, is_kind}
+use Rattle.tokens.specs.Phrase.{words_in, position}
 use Rattle.tokens.specs.Grammar.{token, the_first, the_second}
 use Rattle.tokens.proofs.Okay.{Okay, pick-ok, perhaps-ok, word-kind, is_kind_lem, not-kind, kind-yes, kind-no, kind-complete}
 use Rattle.tokens.proofs.PhraseLaws.{choice-ok, choice-complete}

@@ -13,7 +13,7 @@ use Rattle.tokens.specs.Layout.{Duration}
 use Rattle.tokens.specs.Lexing.{Lexing, most_tokens, most_bytes, least_words}
 use Rattle.tokens.specs.Rules.{Lexes}
 use Rattle.tokens.specs.Ended.{Ended, record_words}
-use Rattle.sheet.specs.Sheet.{Sheet, well_formed, sheet_check}
+use Rattle.sheet.specs.Sheet.{well_formed, sheet_check}
 use Rattle.sheet.specs.View.{View, seen, own_primary}
 use Rattle.sheet.specs.declared.Call.{Call}
 use Rattle.topics.specs.Topics.{Allowed}

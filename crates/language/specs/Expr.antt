@@ -1,5 +1,5 @@
 -- Readings and VALUE (document 01, "Grammar").
-use Rattle.std.specs.Prelude.{ℕ, ◌+◌, Bool, true, false, eqb}
+use Rattle.std.specs.Prelude.{ℕ, Bool, true, false, eqb}
 use Rattle.text.specs.Choice.{pick}
 use Rattle.text.specs.Literal.{ascii}
 use Rattle.tokens.specs.Result.{Res, ok, bind, perhaps, refuse}

@@ -1,5 +1,5 @@
 -- SOLAR and time bounds (document 01, "Grammar", and question 36).
-use Rattle.std.specs.Prelude.{ℕ, ◌+◌, Bool, true, false, leb, eqb, pos}
+use Rattle.std.specs.Prelude.{ℕ, Bool, true, false, leb, eqb, pos}
 use Rattle.text.specs.Choice.{pick}
 use Rattle.text.specs.Literal.{ascii}
 use Rattle.tokens.specs.Result.{Res, ok, bind, perhaps, refuse}

@@ -119,13 +119,15 @@ pub items-complete : {t : ℕ → Tok} {view : View} {m i j : ℕ} {xs : List It
 unfolding items_from
 items-complete zero a l n f (one h) = absurd (omega arith)
 items-complete zero a l n f (more h c g) = absurd (omega arith)
+items-complete (suc fuel) a l n fresh_end h = elim h [ ]
 items-complete {t} {j = j} (suc fuel) a l n (fresh f fs) (one h) = let p = arg-complete a f h in rw (p.0, kind-no t 11 j n)
-items-complete {t} (suc fuel) a l n (fresh {x = x} f fs) (more h (token p) g) =
+items-complete {t} {m = m} (suc fuel) a l n (fresh {x = x} f fs) (more {n = n'} h (token p) g) =
     let q = arg-complete a f h in
-    rw (q.0, kind-yes t refl p, q.1, items-complete fuel (put a x) (omega arith) n fs g)
+    rw (q.0, kind-yes t refl p, q.1, items-complete {m = n'} fuel (put a x) (omega arith) n fs g)
 
 items-next : {t : ℕ → Tok} {view : View} {a : Args} {m i j : ℕ} {xs : List Item} → Fresh view.repeats a xs → ArgList t view m i xs j →
     i + length xs ≤ j
+items-next fresh_end h = elim h [ ]
 items-next {a = a} (fresh f fs) (one h) = let p = arg-complete a f h in omega arith
 items-next {a = a} (fresh f fs) (more h c g) = let p = arg-complete a f h in omega (arith, token-next c, items-next fs g)
 

@@ -1,11 +1,10 @@
 -- A reference of the grammar is within its kind's range, by name or by number.
 use Prim.Native.Nat.{ℕ, ◌≤◌}
 use native.Mathlib.Omega.{arith}
-use mathlib.Core.Path.{◌≡◌, refl, subst}
-use mathlib.Core.List.{List, [], ◌∷◌}
+use mathlib.Core.List.{List}
 use Rattle.tokens.specs.Cursor.{Tok}
 use Rattle.tokens.specs.Grammar.{UpTo, up_to}
-use Rattle.model.specs.Limits.{last_adapter, last_group, last_short_address, last_instance, last_instance_group, last_instance_type}
+use Rattle.model.specs.Limits.{last_adapter, last_instance, last_instance_group, last_instance_type}
 use Rattle.model.specs.Ranges.{Each, RefInRange, LampInRange, GroupInRange, DeviceInRange, DevInRange, InputInRange, TypeInRange, SelectorInRange, TargetInRange}
 use Rattle.sheet.specs.Kind.{lamp_kind, group_kind, device_kind, input_kind, most_of}
 use Rattle.sheet.specs.View.{View}
@@ -65,6 +64,7 @@ items_in (ArgList.one h) = Each.more (arg_in h) Each.none
 items_in (ArgList.more h c g) = Each.more (arg_in h) (items_in g)
 
 last_in : {k : ℕ} {xs : List Item} {x : Item} → Each ItemInRange xs → Last k xs x → ItemInRange x
+last_in Each.none l = elim l [ ]
 last_in (Each.more p e) (Last.last q w) = p
 last_in (Each.more p e) (Last.later l) = last_in e l
 

@@ -5,7 +5,7 @@ use mathlib.Core.Path.{◌≡◌, refl, sym, ◌∙◌, ap}
 use mathlib.Core.Bool.{Bool, true, false}
 use mathlib.Core.List.{List, [], ◌∷◌}
 use lib.Dec.{eqb}
-use borrow.Author.Tests.{eq-eqb, ne_eqb, eqb-true, eqb-false}
+use borrow.Author.Tests.{eqb-true}
 use Rattle.text.specs.Choice.{pick}
 use Rattle.references.specs.Arguments.{dev_slot, inst_slot, group_slot, type_slot, adapter_slot}
 use Rattle.references.specs.Args.{is_dev, is_number, is_group, is_on, is_set, is_repeat, put, no_args}

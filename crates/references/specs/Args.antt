@@ -13,7 +13,6 @@ use Rattle.references.specs.Arguments.{no_slot, dev_slot, inst_slot, group_slot,
 use Rattle.references.specs.Refs.{name_or_id, adapter_number, scope_or_primary, referred}
 use Rattle.sheet.specs.declared.resolve.Scope.{Scope}
 use Rattle.sheet.specs.declared.resolve.Scope.TheVariants.{Any, On}
-use Rattle.model.specs.declared.Ref.{Ref}
 use Rattle.references.specs.declared.refs.NameOrId.{NameOrId}
 use Rattle.references.specs.declared.args.Dev.{Dev}
 use Rattle.model.specs.declared.Number.{Number}

@@ -1,7 +1,7 @@
 -- The grammar of references (document 01, "Grammar"): which readings the tokens t have with what is seen of the sheet. `Form t … i v j`: the tokens
 -- from i up to j read as v. No rule mentions a function of the reader or a definition of what is answered (Refs.antt, Args.antt); names and
 -- ids, adapters and arguments have the types that the reader has for them.
-use Rattle.std.specs.Prelude.{ℕ, ◌+◌, ◌≤◌, ◌≡◌, Bool, true, false, List, [], ◌∷◌, length}
+use Rattle.std.specs.Prelude.{ℕ, ◌≤◌, ◌≡◌, Bool, true, List, [], ◌∷◌, length}
 use Rattle.text.specs.Literal.{ascii}
 use Rattle.tokens.specs.Kind.{STRING, INTEGER, OPEN, CLOSE, COMMA, ASSIGN}
 use Rattle.tokens.specs.Cursor.{Tok}

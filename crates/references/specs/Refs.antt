@@ -1,6 +1,6 @@
 -- R, DEV, TARGET and Q: what is answered for a reference at a token (document 01, "Grammar", and questions 20 to 34).
 -- t is the tokens, view what the call sees of the sheet.
-use Rattle.std.specs.Prelude.{ℕ, ◌+◌, List, Bool, true, false, length, ltb, leb, eqb}
+use Rattle.std.specs.Prelude.{ℕ, length, ltb, leb, eqb}
 use Rattle.text.specs.Choice.{pick}
 use Rattle.text.specs.Literal.{ascii}
 use Rattle.tokens.specs.Result.{Res, ok, no, bind, perhaps, refuse}

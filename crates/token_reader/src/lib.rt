@@ -1,5 +1,6 @@
-// A reader that holds the lent token words beside an index, ported from cursor.rs. The borrow checker covers no function over such a
-// struct, so each is proved by hand, takes it apart once, and leaves the work to a function of the cursor by value, which is covered.
+// A reader that holds the lent token words beside an index, ported from cursor.rs; `peek` and `advance` leave the work to the cursor by value.
+#![tactic(auto)]
+
 ghost use Rattle.std.specs.Prelude.{◌≡◌};
 ghost use Rattle.tokens.specs.Record.{kind_at};
 ghost use Rattle.tokens.specs.Cursor.{advanced};
@@ -39,7 +40,7 @@ pub fn advance<'a>(r: TokenReader<'a>) -> TokenReader<'a>
     }
 }
 
-// The kind of the second token; 0 where there is none. Its parameter is a plain slice, so a caller needs no walk.
+// The kind of the second token; 0 where there is none. Its parameter is a plain slice.
 pub fn second_kind(words: &[u32]) -> u32
     ensures { result ≡ kind_at words.now 1 }
 {
