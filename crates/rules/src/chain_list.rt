@@ -9,24 +9,27 @@ const MOST_PIECES: usize = CHAIN_WORDS - FIRST_PIECE;
 const MORE_THAN_ALL: u32 = 1000;
 
 // A piece is the place of its word in document 02's vocabulary.
-fn piece(k: u8) {
-    out::bytes(split::word(
-        b"lamp sun time is in on off up down sunrise sunset level and 0 63 64 ( ) . .. == + -",
-        k as usize,
-    ));
+fn piece(rt: &HostRuntime, k: u8) {
+    out::bytes(
+        rt,
+        split::word(
+            b"lamp sun time is in on off up down sunrise sunset level and 0 63 64 ( ) . .. == + -",
+            k as usize,
+        ),
+    );
 }
 
 // The words of a chain, one space between.
-fn line(chain: &[u8]) {
+fn line(rt: &HostRuntime, chain: &[u8]) {
     let mut i = 0;
     while i < chain.len() {
         if 0 < i {
-            out::byte(b' ');
+            out::byte(rt, b' ');
         }
-        piece(chain[i]);
+        piece(rt, chain[i]);
         i += 1;
     }
-    out::line_end();
+    out::line_end(rt);
 }
 
 // A word of an answer.
@@ -49,7 +52,7 @@ fn chain_of(answer: &[u32]) -> [u8; MOST_PIECES] {
 }
 
 // The chain behind that of an answer, which becomes the answer, is written; not if none follows.
-fn one_more(answer: &mut [u32]) -> bool {
+fn one_more(rt: &HostRuntime, answer: &mut [u32]) -> bool {
     let last = chain_of(answer);
     let count = word(answer, COUNT) as usize;
     tergyosul::chain::tergyosul_next_chain(text::part::part(&last, 0, count), answer);
@@ -58,15 +61,15 @@ fn one_more(answer: &mut [u32]) -> bool {
     if more == 0 {
         return false;
     }
-    line(text::part::part(&next, 0, more));
+    line(rt, text::part::part(&next, 0, more));
     true
 }
 
 // The chains behind that of an answer, until none follows.
-fn all(answer: &mut [u32]) {
+fn all(rt: &HostRuntime, answer: &mut [u32]) {
     let mut left = MORE_THAN_ALL;
     while left > 0 {
-        if !one_more(answer) {
+        if !one_more(rt, answer) {
             return;
         }
         left -= 1;
@@ -74,7 +77,7 @@ fn all(answer: &mut [u32]) {
 }
 
 // The whole list, from nothing on.
-pub fn run() {
+pub fn run(rt: &HostRuntime) {
     let mut answer = [0u32; CHAIN_WORDS];
-    all(&mut answer);
+    all(rt, &mut answer);
 }

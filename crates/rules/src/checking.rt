@@ -24,30 +24,30 @@ pub fn is_used(answer: &[u32], row: u32) -> bool {
 }
 
 // The line of a row; nothing where the row is not in use.
-pub fn line(text: &[u8], sheet: &[u8], answer: &[u32], row: u32) {
+pub fn line(rt: &HostRuntime, text: &[u8], sheet: &[u8], answer: &[u32], row: u32) {
     if !is_used(answer, row) {
         return;
     }
-    rows::show(text, sheet, answer, row as usize);
-    out::line_end();
+    rows::show(rt, text, sheet, answer, row as usize);
+    out::line_end(rt);
 }
 
-fn lines(text: &[u8], sheet: &[u8], answer: &[u32]) {
+fn lines(rt: &HostRuntime, text: &[u8], sheet: &[u8], answer: &[u32]) {
     let mut k: u32 = 1;
     while k < 9 {
-        line(text, sheet, answer, k);
+        line(rt, text, sheet, answer, k);
         k += 1;
     }
 }
 
 // The last line of the output.
-pub fn verdict(answer: &[u32]) {
-    say::numbers(answer, b"accepted: %n4 trigger%P4, %n5 condition%P5\n");
+pub fn verdict(rt: &HostRuntime, answer: &[u32]) {
+    say::numbers(rt, answer, b"accepted: %n4 trigger%P4, %n5 condition%P5\n");
 }
 
-fn accepted(text: &[u8], sheet: &[u8], answer: &[u32]) {
-    lines(text, sheet, answer);
-    verdict(answer);
+fn accepted(rt: &HostRuntime, text: &[u8], sheet: &[u8], answer: &[u32]) {
+    lines(rt, text, sheet, answer);
+    verdict(rt, answer);
 }
 
 // The number that is given, or else another.
@@ -80,6 +80,7 @@ pub fn asked(o: Options, sheet: &[u8]) -> Call {
 
 // What came of a rule that is accepted.
 fn done(
+    rt: &HostRuntime,
     task: Task,
     call: Call,
     text: &[u8],
@@ -93,20 +94,21 @@ fn done(
     match task {
         Task::Write => {
             writing_out::run(
-                call, text, sheet, lent, words, answer, text_name, sheet_name,
+                rt, call, text, sheet, lent, words, answer, text_name, sheet_name,
             )
         }
         Task::Back => {
             to_rows::run(
-                call, text, sheet, lent, words, answer, text_name, sheet_name,
+                rt, call, text, sheet, lent, words, answer, text_name, sheet_name,
             )
         }
-        _ => accepted(text, sheet, answer),
+        _ => accepted(rt, text, sheet, answer),
     }
 }
 
 // What came of the call, said with what its party sees of the sheet.
 fn said(
+    rt: &HostRuntime,
     task: Task,
     call: Call,
     text: &[u8],
@@ -121,16 +123,19 @@ fn said(
     let size = seen::put(sheet, call.party, &mut buffer);
     let seen = text::part::part(&buffer, 0, size);
     if layout::number(answer) != 0 {
-        diagnose::show(text, seen, lent, words, answer, text_name, sheet_name, call);
+        diagnose::show(
+            rt, text, seen, lent, words, answer, text_name, sheet_name, call,
+        );
         return;
     }
     done(
-        task, call, text, seen, lent, words, answer, text_name, sheet_name,
+        rt, task, call, text, seen, lent, words, answer, text_name, sheet_name,
     );
 }
 
 // Reads the rule and says what came of it.
 fn answered(
+    rt: &HostRuntime,
     task: Task,
     call: Call,
     text: &[u8],
@@ -142,27 +147,28 @@ fn answered(
     let mut words = [0u32; tokens::lexer::LEAST_WORDS];
     let mut answer = [0u32; 108];
     if reading::read(call, text, sheet, lent, &mut words, &mut answer) == 3 {
-        diagnose::bad_sheet(sheet, &answer, sheet_name);
+        diagnose::bad_sheet(rt, sheet, &answer, sheet_name);
         return;
     }
     said(
-        task, call, text, sheet, lent, &mut words, &answer, text_name, sheet_name,
+        rt, task, call, text, sheet, lent, &mut words, &answer, text_name, sheet_name,
     );
 }
 
 // Reads the file of topics into a buffer, if the options name one.
-pub fn load_topics(o: Options, buf: &mut [u8]) -> Loaded {
+pub fn load_topics(rt: &HostRuntime, o: Options, buf: &mut [u8]) -> Loaded {
     if o.topics == options::NO_TOPICS {
         return Loaded { fault: 0, size: 0 };
     }
     let mut buffer = [0u8; 4095];
-    let n = os::arg(o.topics, &mut buffer);
+    let n = files::argument(rt, o.topics, &mut buffer);
     let name = text::part::part(&buffer, 0, n);
-    files::load_topics(name, buf)
+    files::load_topics(rt, name, buf)
 }
 
 // Converts rows, or reads a rule.
 fn given_files(
+    rt: &HostRuntime,
     task: Task,
     call: Call,
     text: &[u8],
@@ -172,13 +178,14 @@ fn given_files(
     sheet_name: &[u8],
 ) {
     match task {
-        Task::Rows => from_rows::run(call, text, sheet, text_name, sheet_name),
-        _ => answered(task, call, text, sheet, lent, text_name, sheet_name),
+        Task::Rows => from_rows::run(rt, call, text, sheet, text_name, sheet_name),
+        _ => answered(rt, task, call, text, sheet, lent, text_name, sheet_name),
     }
 }
 
 // Reads the file of topics, and goes on with it.
 fn with_topics(
+    rt: &HostRuntime,
     o: Options,
     task: Task,
     text: &[u8],
@@ -187,12 +194,13 @@ fn with_topics(
     sheet_name: &[u8],
 ) {
     let mut topics = [0u8; 20000];
-    let loaded = load_topics(o, &mut topics);
+    let loaded = load_topics(rt, o, &mut topics);
     if loaded.fault != 0 {
         return;
     }
     let lent = text::part::part(&topics, 0, loaded.size);
     given_files(
+        rt,
         task,
         asked(o, sheet),
         text,
@@ -204,18 +212,19 @@ fn with_topics(
 }
 
 // Reads the files of the rule, or of rows, and of the sheet, and what the options name.
-fn with_files(o: Options, task: Task, text_name: &[u8], sheet_name: &[u8]) {
+fn with_files(rt: &HostRuntime, o: Options, task: Task, text_name: &[u8], sheet_name: &[u8]) {
     let mut text = [0u8; 20000];
     let mut sheet = [0u8; 20000];
-    let first = files::load(text_name, &mut text);
+    let first = files::load(rt, text_name, &mut text);
     if first.fault != 0 {
         return;
     }
-    let second = files::load(sheet_name, &mut sheet);
+    let second = files::load(rt, sheet_name, &mut sheet);
     if second.fault != 0 {
         return;
     }
     with_topics(
+        rt,
         o,
         task,
         text::part::part(&text, 0, first.size),
@@ -226,12 +235,13 @@ fn with_files(o: Options, task: Task, text_name: &[u8], sheet_name: &[u8]) {
 }
 
 // The names of the files are the words behind the options, in a call with so many.
-pub fn run(o: Options, task: Task, count: usize) {
+pub fn run(rt: &HostRuntime, o: Options, task: Task, count: usize) {
     let mut text_name = [0u8; 4095];
     let mut sheet_name = [0u8; 4095];
-    let n = os::arg(o.at, &mut text_name);
-    let m = os::arg(options::further(o.at, 1, count), &mut sheet_name);
+    let n = files::argument(rt, o.at, &mut text_name);
+    let m = files::argument(rt, options::further(o.at, 1, count), &mut sheet_name);
     with_files(
+        rt,
         o,
         task,
         text::part::part(&text_name, 0, n),

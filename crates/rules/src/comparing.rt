@@ -71,46 +71,57 @@ fn ordinal(i: usize) -> u32 {
 }
 
 // The file and the place, and which token it is.
-fn head(answer: &[u32], name: &[u8], i: usize, p: Place) {
+fn head(rt: &HostRuntime, answer: &[u32], name: &[u8], i: usize, p: Place) {
     let count = layout::detail(answer);
     let row = [p.line, p.column, ordinal(i), count];
-    out::shown(name);
+    out::shown(rt, name);
     if i < count as usize {
-        say::numbers(&row, b":%n0:%n1: token %n2 of %n3\n");
+        say::numbers(rt, &row, b":%n0:%n1: token %n2 of %n3\n");
         return;
     }
-    say::numbers(&row, b":%n0:%n1: the end, behind %n3 token%P3\n");
+    say::numbers(rt, &row, b":%n0:%n1: the end, behind %n3 token%P3\n");
 }
 
 // What one of the rules has at the first difference.
-fn shown(text: &[u8], words: &[u32], answer: &[u32], name: &[u8], i: usize, p: Place) {
-    head(answer, name, i, p);
-    source::marked(source::line_of(text, p.line), p.line, p.column);
-    stands::at(text, words, i, layout::detail(answer) as usize);
-    out::line_end();
+fn shown(
+    rt: &HostRuntime,
+    text: &[u8],
+    words: &[u32],
+    answer: &[u32],
+    name: &[u8],
+    i: usize,
+    p: Place,
+) {
+    head(rt, answer, name, i, p);
+    source::marked(rt, source::line_of(text, p.line), p.line, p.column);
+    stands::at(rt, text, words, i, layout::detail(answer) as usize);
+    out::line_end(rt);
 }
 
 // The last line of the output, where the rules differ.
-fn verdict(i: usize, p: Place, q: Place) {
+fn verdict(rt: &HostRuntime, i: usize, p: Place, q: Place) {
     let row = [ordinal(i), p.line, p.column, q.line, q.column];
     say::numbers(
+        rt,
         &row,
         b"different: the first difference is token %n0, at %n1:%n2 in the first file and at %n3:%n4 in the second\n",
     );
 }
 
-fn same(answer: &[u32]) {
+fn same(rt: &HostRuntime, answer: &[u32]) {
     out::bytes(
+        rt,
         b"The two rules differ at most in white space, in comments and in how values are written, as 5s and 5000ms.
 With the same sheet and options both are read alike: the same triggers and conditions, or the same refusal at the
 corresponding place.
 ",
     );
-    say::numbers(answer, b"same: %n3 token%P3 each\n");
+    say::numbers(rt, answer, b"same: %n3 token%P3 each\n");
 }
 
 // Says how the tokens compare. Word 3 of an answer is their count.
 fn compared(
+    rt: &HostRuntime,
     a: &[u8],
     a_words: &[u32],
     a_answer: &[u32],
@@ -124,47 +135,48 @@ fn compared(
     let n = layout::detail(b_answer);
     let i = first_difference(a, a_words, b, b_words, least(m, n) as usize);
     if i == m as usize && m == n {
-        same(a_answer);
+        same(rt, a_answer);
         return;
     }
     let p = place_of(a_words, a_answer, i);
     let q = place_of(b_words, b_answer, i);
-    shown(a, a_words, a_answer, a_name, i, p);
-    shown(b, b_words, b_answer, b_name, i, q);
-    verdict(i, p, q);
+    shown(rt, a, a_words, a_answer, a_name, i, p);
+    shown(rt, b, b_words, b_answer, b_name, i, q);
+    verdict(rt, i, p, q);
 }
 
 // Cuts both texts into tokens. Of two that are refused the first is shown.
-fn answered(a: &[u8], b: &[u8], a_name: &[u8], b_name: &[u8]) {
+fn answered(rt: &HostRuntime, a: &[u8], b: &[u8], a_name: &[u8], b_name: &[u8]) {
     let mut a_words = [0u32; tokens::lexer::LEAST_WORDS];
     let mut b_words = [0u32; tokens::lexer::LEAST_WORDS];
     let mut a_answer = [0u32; 4];
     let mut b_answer = [0u32; 4];
     if reading::lex(a, &mut a_words, &mut a_answer) != 0 {
-        diagnose::uncut(a, &mut a_words, &a_answer, a_name);
+        diagnose::uncut(rt, a, &mut a_words, &a_answer, a_name);
         return;
     }
     if reading::lex(b, &mut b_words, &mut b_answer) != 0 {
-        diagnose::uncut(b, &mut b_words, &b_answer, b_name);
+        diagnose::uncut(rt, b, &mut b_words, &b_answer, b_name);
         return;
     }
     compared(
-        a, &a_words, &a_answer, a_name, b, &b_words, &b_answer, b_name,
+        rt, a, &a_words, &a_answer, a_name, b, &b_words, &b_answer, b_name,
     );
 }
 
-fn with_files(a_name: &[u8], b_name: &[u8]) {
+fn with_files(rt: &HostRuntime, a_name: &[u8], b_name: &[u8]) {
     let mut a = [0u8; 20000];
     let mut b = [0u8; 20000];
-    let first = files::load(a_name, &mut a);
+    let first = files::load(rt, a_name, &mut a);
     if first.fault != 0 {
         return;
     }
-    let second = files::load(b_name, &mut b);
+    let second = files::load(rt, b_name, &mut b);
     if second.fault != 0 {
         return;
     }
     answered(
+        rt,
         text::part::part(&a, 0, first.size),
         text::part::part(&b, 0, second.size),
         a_name,
@@ -173,12 +185,13 @@ fn with_files(a_name: &[u8], b_name: &[u8]) {
 }
 
 // The names of the files are the two words behind the command.
-pub fn run() {
+pub fn run(rt: &HostRuntime) {
     let mut a_name = [0u8; 4095];
     let mut b_name = [0u8; 4095];
-    let m = os::arg(2, &mut a_name);
-    let n = os::arg(3, &mut b_name);
+    let m = files::argument(rt, 2, &mut a_name);
+    let n = files::argument(rt, 3, &mut b_name);
     with_files(
+        rt,
         text::part::part(&a_name, 0, m),
         text::part::part(&b_name, 0, n),
     );

@@ -142,15 +142,15 @@ fn near_item(list: &[u8], marks: &[u8], word: &[u8]) -> usize {
 }
 
 // If a word stands there that nearly is one of the candidates: that one.
-fn suggestion(list: &[u8], marks: &[u8], word: &[u8], line: u32) {
+fn suggestion(rt: &HostRuntime, list: &[u8], marks: &[u8], word: &[u8], line: u32) {
     let k = near_item(list, marks, word);
     if k == END {
         return;
     }
-    source::margin(line, b'=');
-    out::bytes(b" help: did you mean ");
-    out::backquoted(split::word(list, k));
-    out::bytes(b"?\n");
+    source::margin(rt, line, b'=');
+    out::bytes(rt, b" help: did you mean ");
+    out::backquoted(rt, split::word(list, k));
+    out::bytes(rt, b"?\n");
 }
 
 // The bytes of the token at the place, which may be a slip; none at the end of the text, none for 40, whose word is no slip, and none for 50, whose help
@@ -163,19 +163,19 @@ fn word_at<'a, 'b>(text: &'a [u8], words: &'b [u32], f: Fault) -> &'a [u8] {
 }
 
 // The line that says what may stand at the place, and perhaps one that suggests a word; nothing where the reader could not be asked.
-fn lines(list: &[u8], marks: &[u8], word: &[u8], line: u32) {
+fn lines(rt: &HostRuntime, list: &[u8], marks: &[u8], word: &[u8], line: u32) {
     if marks::count(marks) == 0 {
         return;
     }
-    source::margin(line, b'=');
-    out::bytes(b" expected: ");
-    items::words(list, marks);
-    out::line_end();
-    suggestion(list, marks, word, line);
+    source::margin(rt, line, b'=');
+    out::bytes(rt, b" expected: ");
+    items::words(rt, list, marks);
+    out::line_end(rt);
+    suggestion(rt, list, marks, word, line);
 }
 
 // Asks the reader for each candidate and for the end of the text.
-pub fn show(text: &[u8], sheet: &[u8], words: &[u32], f: Fault) {
+pub fn show(rt: &HostRuntime, text: &[u8], sheet: &[u8], words: &[u32], f: Fault) {
     let list =
         b"\"x\" 1 12:00 1s when if and timer rule controller http mqtt every at scene device group hcl lamp input last_fired mon tue wed thu fri sat sun time day var event sunrise sunset fires fails starts becomes active trigger recalled goes offline comes online any_on all_off override clears for broadcast turns on off crosses above below power cycled manual config changed changes is press release short_press double_press long_press_start long_press_repeat long_press_stop button_free button_stuck movement no_movement any_event occupied vacant running enabled overridden older than up down in level cct is_on last_level member_count light position last_event_age now hour minute weekday rise set is_up value instance option button absolute occupancy dev= inst= group= type= adapter= data= ( ) , . .. = == != >= <= > < + -";
     let mut trial = [0u8; 20000];
@@ -195,5 +195,5 @@ pub fn show(text: &[u8], sheet: &[u8], words: &[u32], f: Fault) {
     leave_out(list, f.call, &mut marks);
     let is_in = may_end(&trial, start, sheet, &mut trial_words, f.call);
     marks::set(&mut marks, END, is_in);
-    lines(list, &marks, word_at(text, words, f), f.line);
+    lines(rt, list, &marks, word_at(text, words, f), f.line);
 }

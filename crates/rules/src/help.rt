@@ -4,7 +4,7 @@ use wording::fault::Fault;
 use wording::{day, forms, lookup, out, shop, topic};
 
 // By the number of the refusal.
-fn of_uncut(number: u32) {
+fn of_uncut(rt: &HostRuntime, number: u32) {
     let table = b"_ split the rule into several texts
 1 split the rule into several texts
 2 this is a fault of the program, not of the rule
@@ -17,19 +17,19 @@ fn of_uncut(number: u32) {
 16 the units are `ms`, `s`, `m` and `h`
 17 a duration has at most 4294967295 ms, a little over 1193h
 18 write fewer places behind the point";
-    out::entry(table, number);
+    out::entry(rt, table, number);
 }
 
-fn of_input(number: u32) {
+fn of_input(rt: &HostRuntime, number: u32) {
     let table = b"_ write `dev` and `inst` in the place of `group`
 26 name it: `group=`, `type=` or `adapter=`; the first two are `dev` and `inst`
 27 drop `group`, or drop `dev` and `inst`
 28 add `dev=` and `inst=`, or `group=`
 29 add the instance, as in `input(\"Door\", 0)` or `inst=0`";
-    out::entry(table, number);
+    out::entry(rt, table, number);
 }
 
-fn of_form(number: u32) {
+fn of_form(rt: &HostRuntime, number: u32) {
     let table = b"_ remove the rest, or put it into another rule
 23 write the name, of 1 to 48 bytes
 24 shorten it; a letter outside ASCII has two bytes or more
@@ -40,54 +40,54 @@ fn of_form(number: u32) {
 39 split the rule in two
 40 leave it out: what the message says is not asked
 63 leave one of them out";
-    out::entry(table, number);
+    out::entry(rt, table, number);
 }
 
 // 20, 21 and 50: what is written in the place of what stands there.
-fn of_place(text: &[u8], words: &[u32], f: Fault) {
+fn of_place(rt: &HostRuntime, text: &[u8], words: &[u32], f: Fault) {
     if f.number == 50 {
-        day::help(text, words, f);
+        day::help(rt, text, words, f);
         return;
     }
-    forms::show(text, words, f);
+    forms::show(rt, text, words, f);
 }
 
-pub fn show(text: &[u8], sheet: &[u8], lent: &[u8], words: &[u32], f: Fault) {
+pub fn show(rt: &HostRuntime, text: &[u8], sheet: &[u8], lent: &[u8], words: &[u32], f: Fault) {
     if f.number < 20 {
-        of_uncut(f.number);
+        of_uncut(rt, f.number);
         return;
     }
     if 26 <= f.number && f.number <= 30 {
-        of_input(f.number);
+        of_input(rt, f.number);
         return;
     }
     if f.number == 20 || f.number == 21 || f.number == 50 {
-        of_place(text, words, f);
+        of_place(rt, text, words, f);
         return;
     }
     if f.number == 22 {
-        range::show(text, sheet, words, f);
+        range::show(rt, text, sheet, words, f);
         return;
     }
     if f.number == 25 {
-        lookup::adapters(sheet, words, f);
+        lookup::adapters(rt, sheet, words, f);
         return;
     }
     if f.number == 53 {
-        lookup::primaries(sheet, f);
+        lookup::primaries(rt, sheet, f);
         return;
     }
     if 31 <= f.number && f.number <= 34 {
-        lookup::show(text, sheet, words, f);
+        lookup::show(rt, text, sheet, words, f);
         return;
     }
     if shop::is_of_shop(f.number) {
-        shop::help(text, sheet, words, f);
+        shop::help(rt, text, sheet, words, f);
         return;
     }
     if topic::is_of_topic(f.number) {
-        topic::help(text, lent, words, f);
+        topic::help(rt, text, lent, words, f);
         return;
     }
-    of_form(f.number);
+    of_form(rt, f.number);
 }

@@ -1,4 +1,6 @@
 // The program `rules`: checks a rule against a name sheet, for whoever writes the two. `rules help` says how it is called.
+#![tactic(auto)]
+
 mod chain_list;
 mod checking;
 mod comparing;
@@ -17,10 +19,11 @@ mod writing_out;
 
 use crate::checking::Task;
 use wording::options::Options;
-use wording::{options, out};
+use wording::{files, options, out};
 
-fn usage() {
+fn usage(rt: &HostRuntime) {
     out::bytes(
+        rt,
         b"rules: checks the rules of lighting controllers (Tergyosul)
 
   rules check RULES SHEET       reads the rule in the file RULES with the name sheet in the file SHEET
@@ -94,7 +97,7 @@ different, 2 for bad arguments and for files that cannot be read.
 }
 
 // What is wrong with the arguments, and the last line of the output.
-fn bad_arguments(wrong: u32) {
+fn bad_arguments(rt: &HostRuntime, wrong: u32) {
     let table = b"_ there is no such command
 1 check takes two files: a rule and a name sheet
 2 tokens takes one file: a rule
@@ -110,8 +113,9 @@ fn bad_arguments(wrong: u32) {
 12 rows takes two files: one of rows and a name sheet
 13 rows-back takes two files: a rule and a name sheet
 14 --archive, --shop and --topics do not go together with rows, which reads no rule";
-    out::entry(table, wrong);
+    out::entry(rt, table, wrong);
     out::bytes(
+        rt,
         b"\nusage: rules check [--archive | --shop] [--party P] [--primary A] [--topics FILE] RULES SHEET | rules tokens RULES | rules same A B | rules join [--party P] [--primary A] [--topics FILE] A B SHEET | rules write [--archive | --shop] [--party P] [--primary A] [--topics FILE] RULES SHEET | rules rows [--party P] [--primary A] FILE SHEET | rules rows-back [--party P] [--primary A] [--topics FILE] RULES SHEET | rules chains | rules help\nrefused: bad arguments\n",
     );
 }
@@ -123,8 +127,8 @@ fn is_help(command: &[u8]) -> bool {
 }
 
 // The options of what is done with two files, the sheet's among them; `wrong` is what is wrong if there are not two.
-fn options_of(task: Task, count: usize, wrong: u32) -> Options {
-    let o = options::before_files(count, 2, wrong);
+fn options_of(rt: &HostRuntime, task: Task, count: usize, wrong: u32) -> Options {
+    let o = options::before_files(rt, count, 2, wrong);
     match task {
         Task::Back => options::without_habit(o),
         Task::Rows => options::without_rule(o),
@@ -133,106 +137,106 @@ fn options_of(task: Task, count: usize, wrong: u32) -> Options {
 }
 
 // Checks a rule, or does something else with two files, which stand behind the options.
-fn check(count: usize, task: Task, wrong: u32) {
-    let o = options_of(task, count, wrong);
+fn check(rt: &HostRuntime, count: usize, task: Task, wrong: u32) {
+    let o = options_of(rt, task, count, wrong);
     if o.wrong != 0 {
-        bad_arguments(o.wrong);
+        bad_arguments(rt, o.wrong);
         return;
     }
-    checking::run(o, task, count);
+    checking::run(rt, o, task, count);
 }
 
 // Joins two rules: behind the options stand their files and the sheet's, and nothing else.
-fn join(count: usize) {
-    let o = options::without_habit(options::before_files(count, 3, 9));
+fn join(rt: &HostRuntime, count: usize) {
+    let o = options::without_habit(options::before_files(rt, count, 3, 9));
     if o.wrong != 0 {
-        bad_arguments(o.wrong);
+        bad_arguments(rt, o.wrong);
         return;
     }
-    joining::run(o, count);
+    joining::run(rt, o, count);
 }
 
-fn list(count: usize) {
-    if options::is_option(2) {
-        bad_arguments(3);
+fn list(rt: &HostRuntime, count: usize) {
+    if options::is_option(rt, 2) {
+        bad_arguments(rt, 3);
         return;
     }
     if count == 3 {
-        listing::run();
+        listing::run(rt);
         return;
     }
-    bad_arguments(2);
+    bad_arguments(rt, 2);
 }
 
-fn compare(count: usize) {
-    if count == 4 && !options::is_option(2) {
-        comparing::run();
+fn compare(rt: &HostRuntime, count: usize) {
+    if count == 4 && !options::is_option(rt, 2) {
+        comparing::run(rt);
         return;
     }
-    bad_arguments(8);
+    bad_arguments(rt, 8);
 }
 
-fn chains(count: usize) {
+fn chains(rt: &HostRuntime, count: usize) {
     if count == 2 {
-        chain_list::run();
+        chain_list::run(rt);
         return;
     }
-    bad_arguments(7);
+    bad_arguments(rt, 7);
 }
 
 // Runs a command that takes a name sheet.
-fn with_sheet(command: &[u8], count: usize) {
+fn with_sheet(rt: &HostRuntime, command: &[u8], count: usize) {
     if text::part::same(command, b"join") {
-        join(count);
+        join(rt, count);
         return;
     }
     if text::part::same(command, b"write") {
-        check(count, Task::Write, 11);
+        check(rt, count, Task::Write, 11);
         return;
     }
     if text::part::same(command, b"rows") {
-        check(count, Task::Rows, 12);
+        check(rt, count, Task::Rows, 12);
         return;
     }
     if text::part::same(command, b"rows-back") {
-        check(count, Task::Back, 13);
+        check(rt, count, Task::Back, 13);
         return;
     }
     if !text::part::same(command, b"check") {
-        bad_arguments(0);
+        bad_arguments(rt, 0);
         return;
     }
-    check(count, Task::Check, 1);
+    check(rt, count, Task::Check, 1);
 }
 
 // Runs a command of a call with so many arguments, its own name and the command among them.
-fn run(command: &[u8], count: usize) {
+fn run(rt: &HostRuntime, command: &[u8], count: usize) {
     if is_help(command) {
-        usage();
+        usage(rt);
         return;
     }
     if text::part::same(command, b"tokens") {
-        list(count);
+        list(rt, count);
         return;
     }
     if text::part::same(command, b"same") {
-        compare(count);
+        compare(rt, count);
         return;
     }
     if text::part::same(command, b"chains") {
-        chains(count);
+        chains(rt, count);
         return;
     }
-    with_sheet(command, count);
+    with_sheet(rt, command, count);
 }
 
-fn main() {
+fn main(rt: HostRuntime) {
     let mut command = [0u8; 64];
-    let count = os::arg_count();
+    let count = files::argument_count(&rt);
     if count < 2 {
-        usage();
+        usage(&rt);
         return;
     }
-    let n = os::arg(1, &mut command);
-    run(text::part::part(&command, 0, n), count);
+    let n = files::argument(&rt, 1, &mut command);
+    run(&rt, text::part::part(&command, 0, n), count);
 }

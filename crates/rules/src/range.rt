@@ -64,20 +64,23 @@ fn greatest(text: &[u8], sheet: &[u8], f: Fault, behind: usize, list: &[u8]) -> 
 }
 
 // The numbers that may stand there: from 0 on, to the greatest that some form of the language has and the reader takes there.
-pub fn show(text: &[u8], sheet: &[u8], words: &[u32], f: Fault) {
+pub fn show(rt: &HostRuntime, text: &[u8], sheet: &[u8], words: &[u32], f: Fault) {
     let list = b"15 31 63 254 255 1023";
     let start = tokens::record::start(words, f.token) as usize;
     let length = tokens::record::length(words, f.token) as usize;
     let behind = start + length;
     if is_id(text, sheet, f, behind) {
-        out::bytes(b"write its name in quotes: the shop profile takes no number here");
+        out::bytes(
+            rt,
+            b"write its name in quotes: the shop profile takes no number here",
+        );
         return;
     }
     let found = greatest(text, sheet, f, behind, list);
     if found == 0 {
-        out::bytes(b"the manual has the range of each number");
+        out::bytes(rt, b"the manual has the range of each number");
         return;
     }
-    out::bytes(b"write a number from 0 to ");
-    out::word(list, found);
+    out::bytes(rt, b"write a number from 0 to ");
+    out::word(rt, list, found);
 }

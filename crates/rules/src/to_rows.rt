@@ -5,61 +5,70 @@ use sheet::Call;
 use wording::{layout, out, rewritten, say, seen, source, unnamed};
 
 // File, number and entry, before what is wrong with it.
-fn head(number: u32, answer: &[u32], line: u32, text_name: &[u8]) {
-    out::shown(text_name);
-    say::number(number, b": refusal %n0: ");
-    writing_out::ordinal(answer, line);
+fn head(rt: &HostRuntime, number: u32, answer: &[u32], line: u32, text_name: &[u8]) {
+    out::shown(rt, text_name);
+    say::number(rt, number, b": refusal %n0: ");
+    writing_out::ordinal(rt, answer, line);
 }
 
 // The entry, in plain words.
-fn entry(text: &[u8], sheet: &[u8], answer: &[u32], line: u32, text_name: &[u8]) {
-    out::line_end();
-    out::shown(text_name);
-    out::bytes(b": ");
+fn entry(rt: &HostRuntime, text: &[u8], sheet: &[u8], answer: &[u32], line: u32, text_name: &[u8]) {
+    out::line_end(rt);
+    out::shown(rt, text_name);
+    out::bytes(rt, b": ");
     let row = writing_out::row_of(answer, line);
-    checking::line(text, sheet, answer, text::place::held(row));
+    checking::line(rt, text, sheet, answer, text::place::held(row));
 }
 
 // The last line of the output.
-fn verdict(number: u32, answer: &[u32], line: u32) {
-    say::number(number, b"refused: %n0 at ");
-    writing_out::ordinal(answer, line);
-    out::line_end();
+fn verdict(rt: &HostRuntime, number: u32, answer: &[u32], line: u32) {
+    say::number(rt, number, b"refused: %n0 at ");
+    writing_out::ordinal(rt, answer, line);
+    out::line_end(rt);
 }
 
 // Of 61: what is wrong with a trigger, or with a condition.
-fn wrong(is_trigger: bool) {
+fn wrong(rt: &HostRuntime, is_trigger: bool) {
     if is_trigger {
-        out::bytes(b" is none that a row says");
+        out::bytes(rt, b" is none that a row says");
         return;
     }
-    out::bytes(b" has no place: rows have no conditions");
+    out::bytes(rt, b" has no place: rows have no conditions");
 }
 
 // The way out of 61.
-fn way_out(is_trigger: bool) {
-    source::margin(0, b'=');
+fn way_out(rt: &HostRuntime, is_trigger: bool) {
+    source::margin(rt, 0, b'=');
     if is_trigger {
         out::bytes(
+            rt,
             b" help: a row says that a lamp turns on or off, a group becomes any_on or all_off, or a device goes offline or comes online: keep this trigger in a rule\n",
         );
         return;
     }
-    out::bytes(b" help: keep the rule, or leave its `if` part out\n");
+    out::bytes(rt, b" help: keep the rule, or leave its `if` part out\n");
 }
 
 // 61: the entry with an ordinal is none that a row says.
-fn unsaid(text: &[u8], sheet: &[u8], answer: &[u32], line: u32, text_name: &[u8]) {
+fn unsaid(
+    rt: &HostRuntime,
+    text: &[u8],
+    sheet: &[u8],
+    answer: &[u32],
+    line: u32,
+    text_name: &[u8],
+) {
     let is_trigger = line <= layout::triggers(answer);
-    head(61, answer, line, text_name);
-    wrong(is_trigger);
-    entry(text, sheet, answer, line, text_name);
-    way_out(is_trigger);
-    verdict(61, answer, line);
+    head(rt, 61, answer, line, text_name);
+    wrong(rt, is_trigger);
+    entry(rt, text, sheet, answer, line, text_name);
+    way_out(rt, is_trigger);
+    verdict(rt, 61, answer, line);
 }
 
 // 62: the trigger with an ordinal has no name that a row may have.
 fn without_name(
+    rt: &HostRuntime,
     call: Call,
     text: &[u8],
     sheet: &[u8],
@@ -70,23 +79,24 @@ fn without_name(
 ) {
     let settings = seen::settings(sheet, call);
     let row = writing_out::row_of(answer, line);
-    head(62, answer, line, text_name);
-    out::bytes(b" needs a name in its row, and ");
-    unnamed::wrong(sheet, settings, answer, row);
-    entry(text, sheet, answer, line, text_name);
-    unnamed::show(sheet, settings, answer, row, sheet_name);
-    verdict(62, answer, line);
+    head(rt, 62, answer, line, text_name);
+    out::bytes(rt, b" needs a name in its row, and ");
+    unnamed::wrong(rt, sheet, settings, answer, row);
+    entry(rt, text, sheet, answer, line, text_name);
+    unnamed::show(rt, sheet, settings, answer, row, sheet_name);
+    verdict(rt, 62, answer, line);
 }
 
 // Says what was left out of the rule.
-fn left_out(text: &[u8], words: &mut [u32], rows: &[u8]) {
+fn left_out(rt: &HostRuntime, text: &[u8], words: &mut [u32], rows: &[u8]) {
     let mut answer = [0u32; 4];
     reading::lex(text, words, &mut answer);
-    rewritten::show_rows(text, words, layout::detail(&answer) as usize, rows);
+    rewritten::show_rows(rt, text, words, layout::detail(&answer) as usize, rows);
 }
 
 // What came of a rule that is accepted, said with what its party sees of the sheet.
 pub fn run(
+    rt: &HostRuntime,
     call: Call,
     text: &[u8],
     sheet: &[u8],
@@ -99,18 +109,18 @@ pub fn run(
     let mut buffer = [0u8; old_rows::restore::LEAST_BYTES];
     let w = reading::back(call, text, sheet, lent, words, &mut buffer);
     if w.number == 61 {
-        unsaid(text, sheet, answer, w.line, text_name);
+        unsaid(rt, text, sheet, answer, w.line, text_name);
         return;
     }
     if w.number == 62 {
-        without_name(call, text, sheet, answer, w.line, text_name, sheet_name);
+        without_name(rt, call, text, sheet, answer, w.line, text_name, sheet_name);
         return;
     }
     if w.number != 0 {
-        writing_out::faulty(w.number);
+        writing_out::faulty(rt, w.number);
         return;
     }
     let rows = text::part::part(&buffer, 0, w.length as usize);
-    left_out(text, words, rows);
-    out::bytes(rows);
+    left_out(rt, text, words, rows);
+    out::bytes(rt, rows);
 }

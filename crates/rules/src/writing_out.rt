@@ -20,7 +20,14 @@ fn write(
 }
 
 // What is said of a repeated argument, which only the archive loader takes.
-fn of_repeats(call: Call, text: &[u8], sheet: &[u8], lent: &[u8], words: &mut [u32]) {
+fn of_repeats(
+    rt: &HostRuntime,
+    call: Call,
+    text: &[u8],
+    sheet: &[u8],
+    lent: &[u8],
+    words: &mut [u32],
+) {
     let mut answer = [0u32; 108];
     let plain = Call {
         habit: Habit::Rule,
@@ -28,17 +35,21 @@ fn of_repeats(call: Call, text: &[u8], sheet: &[u8], lent: &[u8], words: &mut [u
         primary: call.primary,
     };
     if reading::read(plain, text, sheet, lent, words, &mut answer) == 63 {
-        aside::bytes(b"left out: repeated arguments of `input(`, of which the last one counts\n");
+        aside::bytes(
+            rt,
+            b"left out: repeated arguments of `input(`, of which the last one counts\n",
+        );
     }
 }
 
 // What is said of names under the shop profile, which asks for them.
-fn of_shop(call: Call, are_named: bool) {
+fn of_shop(rt: &HostRuntime, call: Call, are_named: bool) {
     let habit = call.habit;
     match habit {
         Habit::Shop => {
             if are_named {
                 aside::bytes(
+                    rt,
                     b"note: the shop profile refuses this text with 57, since it has ids; without --shop it is read as the same rule\n",
                 );
             }
@@ -48,27 +59,35 @@ fn of_shop(call: Call, are_named: bool) {
 }
 
 // Says what was left out.
-fn left_out(call: Call, text: &[u8], sheet: &[u8], lent: &[u8], words: &mut [u32], written: &[u8]) {
+fn left_out(
+    rt: &HostRuntime,
+    call: Call,
+    text: &[u8],
+    sheet: &[u8],
+    lent: &[u8],
+    words: &mut [u32],
+    written: &[u8],
+) {
     let mut others = [0u32; tokens::lexer::LEAST_WORDS];
     let mut one = [0u32; 4];
     let mut two = [0u32; 4];
-    of_repeats(call, text, sheet, lent, words);
+    of_repeats(rt, call, text, sheet, lent, words);
     reading::lex(text, words, &mut one);
     reading::lex(written, &mut others, &mut two);
     let m = layout::detail(&one) as usize;
     let n = layout::detail(&two) as usize;
-    let are_named = rewritten::show(text, words, m, written, &others, n);
-    of_shop(call, are_named);
+    let are_named = rewritten::show(rt, text, words, m, written, &others, n);
+    of_shop(rt, call, are_named);
 }
 
 // The entry with an ordinal, triggers first, as in `trigger 2`.
-pub fn ordinal(answer: &[u32], line: u32) {
+pub fn ordinal(rt: &HostRuntime, answer: &[u32], line: u32) {
     let n = layout::triggers(answer);
     if line <= n {
-        say::number(line, b"trigger %n0");
+        say::number(rt, line, b"trigger %n0");
         return;
     }
-    say::number(line - n, b"condition %n0");
+    say::number(rt, line - n, b"condition %n0");
 }
 
 // The row of the entry with an ordinal.
@@ -81,17 +100,18 @@ pub fn row_of(answer: &[u32], line: u32) -> usize {
 }
 
 // The way out of 56, and the last line of the output.
-fn way_out(answer: &[u32], line: u32, adapter: u32, sheet_name: &[u8]) {
-    source::margin(0, b'=');
-    say::number(adapter, b" help: put the row `adapter,%n0` into ");
-    out::shown(sheet_name);
-    out::bytes(b"\nrefused: 56 at ");
-    ordinal(answer, line);
-    out::line_end();
+fn way_out(rt: &HostRuntime, answer: &[u32], line: u32, adapter: u32, sheet_name: &[u8]) {
+    source::margin(rt, 0, b'=');
+    say::number(rt, adapter, b" help: put the row `adapter,%n0` into ");
+    out::shown(rt, sheet_name);
+    out::bytes(rt, b"\nrefused: 56 at ");
+    ordinal(rt, answer, line);
+    out::line_end(rt);
 }
 
 // 56: the entry with an ordinal has an adapter that is not listed.
 fn unreached(
+    rt: &HostRuntime,
     call: Call,
     text: &[u8],
     sheet: &[u8],
@@ -102,23 +122,25 @@ fn unreached(
 ) {
     let row = row_of(answer, line);
     let adapter = unlisted::adapter(sheet, seen::settings(sheet, call), answer, row);
-    out::shown(text_name);
-    out::bytes(b": refusal 56: ");
-    ordinal(answer, line);
+    out::shown(rt, text_name);
+    out::bytes(rt, b": refusal 56: ");
+    ordinal(rt, answer, line);
     say::number(
+        rt,
         adapter,
         b" needs `adapter=%n0` where it is written by ids, and no row of the sheet lists that adapter\n",
     );
-    out::shown(text_name);
-    out::bytes(b": ");
-    rows::show(text, sheet, answer, row);
-    out::line_end();
-    way_out(answer, line, adapter, sheet_name);
+    out::shown(rt, text_name);
+    out::bytes(rt, b": ");
+    rows::show(rt, text, sheet, answer, row);
+    out::line_end(rt);
+    way_out(rt, answer, line, adapter, sheet_name);
 }
 
 // No rule that was read gets another number.
-pub fn faulty(number: u32) {
+pub fn faulty(rt: &HostRuntime, number: u32) {
     say::number(
+        rt,
         number,
         b"a rule that is accepted could not be written: this is a fault of the program, not of the rule\nrefused: %n0\n",
     );
@@ -126,6 +148,7 @@ pub fn faulty(number: u32) {
 
 // What came of writing a rule that is accepted, said with what its party sees of the sheet.
 pub fn run(
+    rt: &HostRuntime,
     call: Call,
     text: &[u8],
     sheet: &[u8],
@@ -138,15 +161,15 @@ pub fn run(
     let mut buffer = [0u8; writer::LEAST_BYTES];
     let w = write(call, text, sheet, lent, words, &mut buffer);
     if w.number == 56 {
-        unreached(call, text, sheet, answer, w.line, text_name, sheet_name);
+        unreached(rt, call, text, sheet, answer, w.line, text_name, sheet_name);
         return;
     }
     if w.number != 0 {
-        faulty(w.number);
+        faulty(rt, w.number);
         return;
     }
     let written = text::part::part(&buffer, 0, w.length as usize);
-    left_out(call, text, sheet, lent, words, written);
-    out::bytes(written);
-    out::line_end();
+    left_out(rt, call, text, sheet, lent, words, written);
+    out::bytes(rt, written);
+    out::line_end(rt);
 }

@@ -187,21 +187,21 @@ fn place(l: &[u8], wrong: u32) -> usize {
 }
 
 // A field of a row, which stands at the place.
-pub fn stands(l: &[u8], k: usize) {
+pub fn stands(rt: &HostRuntime, l: &[u8], k: usize) {
     let w = field(l, k);
     if w.len() == 0 {
-        out::bytes(b"nothing stands here");
+        out::bytes(rt, b"nothing stands here");
         return;
     }
-    out::bytes(b"the ");
-    out::bytes(split::word(b"kind name adapter word", k));
-    out::byte(b' ');
-    out::backquoted(w);
-    out::bytes(b" stands here");
+    out::bytes(rt, b"the ");
+    out::bytes(rt, split::word(b"kind name adapter word", k));
+    out::byte(rt, b' ');
+    out::backquoted(rt, w);
+    out::bytes(rt, b" stands here");
 }
 
 // What stands where a row is wrong.
-fn stands_there(l: &[u8], wrong: u32) {
+fn stands_there(rt: &HostRuntime, l: &[u8], wrong: u32) {
     let table = b"_ a CR stands here
 1 the fifth row begins here
 2 nothing stands here
@@ -211,10 +211,10 @@ fn stands_there(l: &[u8], wrong: u32) {
 13 the file ends here";
     let k = field_of(wrong);
     if k < FIELDS {
-        stands(l, k);
+        stands(rt, l, k);
         return;
     }
-    out::entry(table, wrong);
+    out::entry(rt, table, wrong);
 }
 
 // The bytes of the name if it is too long, else how many fields there are.
@@ -226,7 +226,7 @@ fn counted(l: &[u8], wrong: u32) -> u32 {
 }
 
 // What is wrong, in a sentence.
-fn title(l: &[u8], wrong: u32) {
+fn title(rt: &HostRuntime, l: &[u8], wrong: u32) {
     let table = b"_ this row does not end with LF
 1 there are at most four rows, and this is the fifth
 2 this row is empty
@@ -240,19 +240,19 @@ fn title(l: &[u8], wrong: u32) {
 10 this is no adapter
 11 this word does not go with the kind
 12 a row ends with LF alone, and this one has a CR before it";
-    say::number(counted(l, wrong), split::numbered(table, wrong));
+    say::number(rt, counted(l, wrong), split::numbered(table, wrong));
 }
 
 // The words that go with a kind.
-fn of_word(kind: u32) {
+fn of_word(rt: &HostRuntime, kind: u32) {
     let table = b"_ of a lamp write `on` or `off`
 2 of a group write `any_on` or `all_off`
 3 of a device write `offline` or `online`";
-    out::entry(table, kind);
+    out::entry(rt, table, kind);
 }
 
 // The way out.
-fn help(kind: u32, wrong: u32) {
+fn help(rt: &HostRuntime, kind: u32, wrong: u32) {
     let table = b"_ put an LF behind it: the last row has one, too
 1 put it into another file
 2 remove the empty line; a row is written as `lamp,Till,1,on`
@@ -266,44 +266,47 @@ fn help(kind: u32, wrong: u32) {
 10 write a number from 0 to 255 without leading zeros or blanks, or nothing, as in `lamp,Till,,on`
 12 save the file with LF for its line ends";
     if wrong == BAD_WORD {
-        of_word(kind);
+        of_word(rt, kind);
         return;
     }
-    out::entry(table, wrong);
+    out::entry(rt, table, wrong);
 }
 
 // The row with a number, and a mark at an offset; what is said of it goes behind the mark.
-pub fn marked(l: &[u8], n: u32, at: usize) {
-    source::marked(line::without_return(l), n, source::column(l, at));
+pub fn marked(rt: &HostRuntime, l: &[u8], n: u32, at: usize) {
+    source::marked(rt, line::without_return(l), n, source::column(l, at));
 }
 
 // What stands before the way out.
-pub fn before_help(n: u32) {
-    out::line_end();
-    source::margin(n, b'=');
-    out::bytes(b" help: ");
+pub fn before_help(rt: &HostRuntime, n: u32) {
+    out::line_end(rt);
+    source::margin(rt, n, b'=');
+    out::bytes(rt, b" help: ");
 }
 
 // Of 60: no row at all.
-fn none() {
-    out::bytes(b"there is no row");
-    before_help(0);
-    out::bytes(b"write one to four rows, as `lamp,Till,1,on`, with an LF behind each\n");
+fn none(rt: &HostRuntime) {
+    out::bytes(rt, b"there is no row");
+    before_help(rt, 0);
+    out::bytes(
+        rt,
+        b"write one to four rows, as `lamp,Till,1,on`, with an LF behind each\n",
+    );
 }
 
 // The diagnostic of 60 behind the row's number, 0 for none, up to the last line of the output.
-pub fn malformed(archive: &[u8], n: u32) {
+pub fn malformed(rt: &HostRuntime, archive: &[u8], n: u32) {
     if n == 0 {
-        none();
+        none(rt);
         return;
     }
     let l = row(archive, n);
     let wrong = wrong(archive, n);
-    title(l, wrong);
-    out::line_end();
-    marked(l, n, place(l, wrong));
-    stands_there(l, wrong);
-    before_help(n);
-    help(kind(l), wrong);
-    out::line_end();
+    title(rt, l, wrong);
+    out::line_end(rt);
+    marked(rt, l, n, place(l, wrong));
+    stands_there(rt, l, wrong);
+    before_help(rt, n);
+    help(rt, kind(l), wrong);
+    out::line_end(rt);
 }

@@ -12,8 +12,8 @@ const EVERY_DAY: u32 = 127;
 const WORD_LETTERS: usize = 3;
 
 // The word for a day, 0 for Monday to 6 for Sunday.
-fn word(d: usize) {
-    out::bytes(split::word(b"mon tue wed thu fri sat sun", d));
+fn word(rt: &HostRuntime, d: usize) {
+    out::bytes(rt, split::word(b"mon tue wed thu fri sat sun", d));
 }
 
 // Marks the days in DAYS, which is the sum of 1 for Monday, 2 for Tuesday, and so on to 64 for Sunday.
@@ -47,61 +47,61 @@ fn is_between(marks: &[u8], d: usize) -> bool {
 }
 
 // What stands before a day that is shown: `to` if it is the last of three or more in a row, a comma if it is not the first of all.
-fn joint(marks: &[u8], d: usize) {
+fn joint(rt: &HostRuntime, marks: &[u8], d: usize) {
     if has_before(marks, d, 1) && has_before(marks, d, 2) {
-        out::bytes(b" to ");
+        out::bytes(rt, b" to ");
         return;
     }
     if marks::first(marks) < d {
-        out::bytes(b", ");
+        out::bytes(rt, b", ");
     }
 }
 
 // A day, if it is in the set and does not stand between two others of it.
-fn day(marks: &[u8], d: usize) {
+fn day(rt: &HostRuntime, marks: &[u8], d: usize) {
     if is_between(marks, d) {
         return;
     }
     if marks::has(marks, d) {
-        joint(marks, d);
-        word(d);
+        joint(rt, marks, d);
+        word(rt, d);
     }
 }
 
-fn in_order(marks: &[u8]) {
+fn in_order(rt: &HostRuntime, marks: &[u8]) {
     let mut d = 0;
     while d < WEEK_DAYS {
-        day(marks, d);
+        day(rt, marks, d);
         d += 1;
     }
 }
 
 // DAYS, from Monday to Sunday however the rule has them; of three or more in a row the first and the last.
-pub fn set(sum: u32) {
+pub fn set(rt: &HostRuntime, sum: u32) {
     let mut marks = [0u8; WEEK_DAYS];
     mark(sum, &mut marks);
-    in_order(&marks);
+    in_order(rt, &marks);
 }
 
 // DAYS behind a time; nothing for every day.
-pub fn on(sum: u32) {
+pub fn on(rt: &HostRuntime, sum: u32) {
     if sum == EVERY_DAY {
         return;
     }
-    out::bytes(b" on ");
-    set(sum);
+    out::bytes(rt, b" on ");
+    set(rt, sum);
 }
 
 // OFFSET and DAYS behind a solar event with its offset. The days are parted from the offset, which counts on all of them.
-pub fn behind_offset(answer: &[u32], row: usize, k: usize) {
+pub fn behind_offset(rt: &HostRuntime, answer: &[u32], row: usize, k: usize) {
     if 10 < k {
         return;
     }
     let sum = layout::get(answer, row, k + 1);
     if layout::get(answer, row, k) != 0 && sum != EVERY_DAY {
-        out::byte(b',');
+        out::byte(rt, b',');
     }
-    on(sum);
+    on(rt, sum);
 }
 
 // Is the word a slip for a day, or the day's English name, whole, cut short or with a slip? A word of two letters is no slip: `on` is none for `mon`.
@@ -136,17 +136,23 @@ fn is_behind_comma(words: &[u32], i: usize) -> bool {
 }
 
 // 50: the day that is meant, or how a day set is written.
-pub fn help(text: &[u8], words: &[u32], f: Fault) {
+pub fn help(rt: &HostRuntime, text: &[u8], words: &[u32], f: Fault) {
     let d = meant(tokens::record::bytes(text, words, f.token));
     if d < WEEK_DAYS {
-        out::bytes(b"did you mean `");
-        word(d);
-        out::bytes(b"`?");
+        out::bytes(rt, b"did you mean `");
+        word(rt, d);
+        out::bytes(rt, b"`?");
         return;
     }
     if is_behind_comma(words, f.token) {
-        out::bytes(b"a day stands behind each comma: write one, or drop the comma");
+        out::bytes(
+            rt,
+            b"a day stands behind each comma: write one, or drop the comma",
+        );
         return;
     }
-    out::bytes(b"write days and ranges of them, parted by commas, as in `mon..fri, sun`");
+    out::bytes(
+        rt,
+        b"write days and ranges of them, parted by commas, as in `mon..fri, sun`",
+    );
 }

@@ -3,7 +3,7 @@ use crate::fault::Fault;
 use crate::{out, reference, split};
 
 // An example of the trigger with a first word, or of any.
-fn trigger(word: &[u8]) {
+fn trigger(rt: &HostRuntime, word: &[u8]) {
     let table = b"_ lamp(\"Till\") turns on
 timer timer(\"Close\") fires
 rule rule(\"Night\") fails
@@ -18,11 +18,11 @@ group group(\"Sales floor\") becomes all_off` or `any_on
 hcl hcl override starts for lamp(\"Till\")
 lamp lamp(\"Till\") turns on` or `lamp(\"Till\").level crosses below 20
 input input(\"Door\", 0) is short_press` or `becomes occupied";
-    out::bytes(split::entry(table, word));
+    out::bytes(rt, split::entry(table, word));
 }
 
 // An example of the condition with a first word, or of any.
-fn condition(word: &[u8]) {
+fn condition(rt: &HostRuntime, word: &[u8]) {
     let table = b"_ lamp(\"Till\") is on
 controller controller is active
 timer timer(\"Close\") is running
@@ -37,7 +37,7 @@ hcl hcl is overridden for group(\"Sales floor\")
 lamp lamp(\"Till\") is on` or `lamp(\"Till\").level >= 100
 input input(\"Door\", 1) is occupied` or `.light below 300
 var var(\"mode\") == \"night\"` or `var(\"count\") < 5";
-    out::bytes(split::entry(table, word));
+    out::bytes(rt, split::entry(table, word));
 }
 
 // The first word of the trigger or condition behind a token; no bytes if the place is there.
@@ -51,16 +51,16 @@ fn first_word<'a, 'b>(text: &'a [u8], words: &'b [u32], k: usize, f: Fault) -> &
     tokens::record::bytes(text, words, k + 1)
 }
 
-pub fn show(text: &[u8], words: &[u32], f: Fault) {
+pub fn show(rt: &HostRuntime, text: &[u8], words: &[u32], f: Fault) {
     let k = reference::open_before(text, words, f.token, true);
     let word = first_word(text, words, k, f);
     if reference::section(text, words, k) == 2 {
-        out::bytes(b"write it as in `if ");
-        condition(word);
-        out::byte(b'`');
+        out::bytes(rt, b"write it as in `if ");
+        condition(rt, word);
+        out::byte(rt, b'`');
         return;
     }
-    out::bytes(b"write it as in `when ");
-    trigger(word);
-    out::byte(b'`');
+    out::bytes(rt, b"write it as in `when ");
+    trigger(rt, word);
+    out::byte(rt, b'`');
 }

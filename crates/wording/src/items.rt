@@ -13,51 +13,51 @@ pub struct Written {
 // The member behind all candidates, of which there are at most so many.
 pub const END: usize = 255;
 
-pub fn key(k: usize) {
-    out::bytes(b"adapter=");
-    out::number(k as u64);
+pub fn key(rt: &HostRuntime, k: usize) {
+    out::bytes(rt, b"adapter=");
+    out::number(rt, k as u64);
 }
 
 // The adapter behind a number, if one is needed.
-fn behind_number(adapter: u32) {
+fn behind_number(rt: &HostRuntime, adapter: u32) {
     if adapter == 256 {
         return;
     }
-    out::bytes(b", ");
-    key(adapter as usize);
+    out::bytes(rt, b", ");
+    key(rt, adapter as usize);
 }
 
 // An argument of an input.
-fn input(w: Written, k: usize) {
+fn input(rt: &HostRuntime, w: Written, k: usize) {
     if w.numbers {
-        out::bytes(b"dev=");
-        out::number(k as u64);
-        behind_number(w.adapter);
+        out::bytes(rt, b"dev=");
+        out::number(rt, k as u64);
+        behind_number(rt, w.adapter);
         return;
     }
-    key(k);
+    key(rt, k);
 }
 
 // A reference to a lamp, a group or a device.
-fn reference(name: &[u8], w: Written, k: usize) {
-    out::word(b"lamp group device", w.kind);
-    out::byte(b'(');
+fn reference(rt: &HostRuntime, name: &[u8], w: Written, k: usize) {
+    out::word(rt, b"lamp group device", w.kind);
+    out::byte(rt, b'(');
     if w.numbers {
-        out::number(k as u64);
-        behind_number(w.adapter);
-        out::byte(b')');
+        out::number(rt, k as u64);
+        behind_number(rt, w.adapter);
+        out::byte(rt, b')');
         return;
     }
-    out::quoted(name);
-    out::bytes(b", ");
-    key(k);
-    out::byte(b')');
+    out::quoted(rt, name);
+    out::bytes(rt, b", ");
+    key(rt, k);
+    out::byte(rt, b')');
 }
 
 // A word of the list of candidates, or what it stands for, as END does for the end of the text.
-fn candidate(list: &[u8], k: usize) {
+fn candidate(rt: &HostRuntime, list: &[u8], k: usize) {
     if 3 < k && k < END {
-        out::backquoted(split::word(list, k));
+        out::backquoted(rt, split::word(list, k));
         return;
     }
     let table = b"_ the end of the text
@@ -65,61 +65,61 @@ fn candidate(list: &[u8], k: usize) {
 1 a number
 2 a time
 3 a duration";
-    out::entry(table, text::place::held(k));
+    out::entry(rt, table, text::place::held(k));
 }
 
 // A member: of a reference `name` is the name, of a word the list.
-fn item(name: &[u8], w: Written, k: usize) {
+fn item(rt: &HostRuntime, name: &[u8], w: Written, k: usize) {
     let kind = w.kind;
     match kind {
-        0 => out::number(k as u64),
-        4 => input(w, k),
-        5 => candidate(name, k),
-        _ => reference(name, w, k),
+        0 => out::number(rt, k as u64),
+        4 => input(rt, w, k),
+        5 => candidate(rt, name, k),
+        _ => reference(rt, name, w, k),
     }
 }
 
 // What stands before the first of so many that are left of all: a comma, but before the last the given word.
-pub fn separator(left: usize, all: usize, last: &[u8]) {
+pub fn separator(rt: &HostRuntime, left: usize, all: usize, last: &[u8]) {
     if left == all {
         return;
     }
     if left == 1 {
-        out::bytes(last);
+        out::bytes(rt, last);
         return;
     }
-    out::bytes(b", ");
+    out::bytes(rt, b", ");
 }
 
 // All members, with a word before the last.
-pub fn show(name: &[u8], w: Written, marks: &[u8], last: &[u8]) {
+pub fn show(rt: &HostRuntime, name: &[u8], w: Written, marks: &[u8], last: &[u8]) {
     let all = marks::count(marks);
     let mut k = marks::first(marks);
     let mut left = all;
     while left > 0 {
-        separator(left, all, last);
-        item(name, w, k);
+        separator(rt, left, all, last);
+        item(rt, name, w, k);
         k = marks::after(marks, k);
         left -= 1;
     }
 }
 
 // The members as numbers.
-pub fn plain(marks: &[u8]) {
+pub fn plain(rt: &HostRuntime, marks: &[u8]) {
     let w = Written {
         kind: 0,
         numbers: true,
         adapter: 256,
     };
-    show(b"", w, marks, b" and ");
+    show(rt, b"", w, marks, b" and ");
 }
 
 // The members as words of a list of candidates.
-pub fn words(list: &[u8], marks: &[u8]) {
+pub fn words(rt: &HostRuntime, list: &[u8], marks: &[u8]) {
     let w = Written {
         kind: 5,
         numbers: false,
         adapter: 256,
     };
-    show(list, w, marks, b" or ");
+    show(rt, list, w, marks, b" or ");
 }

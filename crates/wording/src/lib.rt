@@ -1,8 +1,11 @@
 // The words of the program `rules`: what it says of entries, names, tokens and faults, and its options and files. It is proved safe and to end.
+#![tactic(auto)]
+
 pub mod archive;
 pub mod archive_name;
 pub mod aside;
 pub mod day;
+pub mod digits;
 pub mod fault;
 pub mod files;
 pub mod forms;

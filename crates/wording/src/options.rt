@@ -1,4 +1,5 @@
 // The options of the commands that take a name sheet. They stand before the files.
+use crate::{digits, files};
 
 // What stands for a number where none from 0 to 255 is given.
 pub const NONE: u32 = 256;
@@ -38,17 +39,17 @@ pub struct Options {
 }
 
 // Does the word at an index begin with a dash? Of a long word its first byte is enough.
-pub fn is_option(i: usize) -> bool {
+pub fn is_option(rt: &HostRuntime, i: usize) -> bool {
     let mut first = [0u8; 1];
-    os::arg(i, &mut first);
+    files::argument(rt, i, &mut first);
     first[0] == b'-'
 }
 
 // Is the word this number, without leading zeros?
 fn writes(word: &[u8], n: u32) -> bool {
-    let mut digits = [0u8; 20];
-    let k = io::decimal(n as u64, &mut digits);
-    text::part::same(word, &digits[..k])
+    let mut buffer = [0u8; digits::MOST];
+    let first = digits::decimal(n as u64, &mut buffer);
+    text::part::same(word, &buffer[first..])
 }
 
 // The number from 0 to 255 that a word writes; NONE where it writes none.
@@ -64,9 +65,9 @@ fn number(word: &[u8]) -> u32 {
 }
 
 // The number that the word at an index writes. One of more than four bytes writes none.
-fn number_at(i: usize) -> u32 {
+fn number_at(rt: &HostRuntime, i: usize) -> u32 {
     let mut word = [0u8; 4];
-    let n = os::arg(i, &mut word);
+    let n = files::argument(rt, i, &mut word);
     number(text::part::part(&word, 0, n))
 }
 
@@ -114,11 +115,11 @@ fn with_shop(o: Options, count: usize) -> Options {
 }
 
 // With the number behind `--party` or `--primary`, of which `before` was given before.
-fn with_number(o: Options, is_party: bool, before: u32, count: usize) -> Options {
+fn with_number(rt: &HostRuntime, o: Options, is_party: bool, before: u32, count: usize) -> Options {
     if before != NONE {
         return refused(o, TWICE);
     }
-    let n = number_at(further(o.at, 1, count));
+    let n = number_at(rt, further(o.at, 1, count));
     if n == NONE {
         return refused(o, NO_NUMBER);
     }
@@ -144,7 +145,7 @@ fn with_topics(o: Options, count: usize) -> Options {
 }
 
 // With the option that is this word.
-fn with_option(o: Options, word: &[u8], count: usize) -> Options {
+fn with_option(rt: &HostRuntime, o: Options, word: &[u8], count: usize) -> Options {
     if text::part::same(word, b"--archive") {
         return with_archive(o, count);
     }
@@ -152,10 +153,10 @@ fn with_option(o: Options, word: &[u8], count: usize) -> Options {
         return with_shop(o, count);
     }
     if text::part::same(word, b"--party") {
-        return with_number(o, true, o.party, count);
+        return with_number(rt, o, true, o.party, count);
     }
     if text::part::same(word, b"--primary") {
-        return with_number(o, false, o.primary, count);
+        return with_number(rt, o, false, o.primary, count);
     }
     if text::part::same(word, b"--topics") {
         return with_topics(o, count);
@@ -164,20 +165,20 @@ fn with_option(o: Options, word: &[u8], count: usize) -> Options {
 }
 
 // With the option that comes next, if there is one and nothing is wrong yet.
-fn with_next(o: Options, count: usize) -> Options {
+fn with_next(rt: &HostRuntime, o: Options, count: usize) -> Options {
     if o.wrong != 0 {
         return o;
     }
-    if !is_option(o.at) {
+    if !is_option(rt, o.at) {
         return o;
     }
     let mut word = [0u8; 16];
-    let n = os::arg(o.at, &mut word);
-    with_option(o, text::part::part(&word, 0, n), count)
+    let n = files::argument(rt, o.at, &mut word);
+    with_option(rt, o, text::part::part(&word, 0, n), count)
 }
 
 // The options of a call with so many words, its own name and the command among them. Four of them go together; a fifth is one too many.
-pub fn read(count: usize) -> Options {
+pub fn read(rt: &HostRuntime, count: usize) -> Options {
     let mut o = Options {
         archive: false,
         shop: false,
@@ -189,15 +190,15 @@ pub fn read(count: usize) -> Options {
     };
     let mut left: u32 = 5;
     while left > 0 {
-        o = with_next(o, count);
+        o = with_next(rt, o, count);
         left -= 1;
     }
     o
 }
 
 // The same for a command that takes so many files, which stand behind the options, and nothing else; `wrong` is what is wrong otherwise.
-pub fn before_files(count: usize, files: usize, wrong: u32) -> Options {
-    let o = read(count);
+pub fn before_files(rt: &HostRuntime, count: usize, files: usize, wrong: u32) -> Options {
+    let o = read(rt, count);
     if o.wrong != 0 {
         return o;
     }

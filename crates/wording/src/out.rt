@@ -1,44 +1,49 @@
 // Standard output. What cannot be written is lost: there is nowhere else to say so.
-use crate::split;
+use crate::{digits, split};
 use text::utf8::Decoded;
 
-pub fn bytes(w: &[u8]) {
-    io::write_all(1, w);
+pub fn bytes(rt: &HostRuntime, w: &[u8]) {
+    match rt.write_all(w) {
+        Ok(()) => {}
+        Err(_) => {}
+    }
 }
 
-pub fn byte(b: u8) {
+pub fn byte(rt: &HostRuntime, b: u8) {
     let one = [b];
-    bytes(&one);
+    bytes(rt, &one);
 }
 
-pub fn number(n: u64) {
-    io::print_decimal(1, n);
+pub fn number(rt: &HostRuntime, n: u64) {
+    let mut buffer = [0u8; digits::MOST];
+    let first = digits::decimal(n, &mut buffer);
+    bytes(rt, &buffer[first..]);
 }
 
 // A number of 32 bits.
-pub fn small(n: u32) {
-    number(n as u64);
+pub fn small(rt: &HostRuntime, n: u32) {
+    number(rt, n as u64);
 }
 
 // A number below 100 with two digits.
-pub fn two_digits(n: u32) {
+pub fn two_digits(rt: &HostRuntime, n: u32) {
     if n < 10 {
-        byte(b'0');
+        byte(rt, b'0');
     }
-    small(n);
+    small(rt, n);
 }
 
 // The word for a code, which counts from 1, of a list of words.
-pub fn word(list: &[u8], code: u32) {
+pub fn word(rt: &HostRuntime, list: &[u8], code: u32) {
     if code == 0 {
         return;
     }
-    bytes(split::word(list, (code - 1) as usize));
+    bytes(rt, split::word(list, (code - 1) as usize));
 }
 
 // What a table says of a number.
-pub fn entry(table: &[u8], n: u32) {
-    bytes(split::numbered(table, n));
+pub fn entry(rt: &HostRuntime, table: &[u8], n: u32) {
+    bytes(rt, split::numbered(table, n));
 }
 
 // Characters that a terminal would not show where they stand: controls but the tab, and marks of direction.
@@ -62,48 +67,48 @@ fn is_hidden(code: u32) -> bool {
 }
 
 // The replacement character, U+FFFD.
-fn replacement() {
-    bytes(b"\xEF\xBF\xBD");
+fn replacement(rt: &HostRuntime) {
+    bytes(rt, b"\xEF\xBF\xBD");
 }
 
 // The character at an offset, or the replacement character for one that is hidden and for a byte of none.
-fn character(w: &[u8], i: usize) {
+fn character(rt: &HostRuntime, w: &[u8], i: usize) {
     let d = text::utf8::decode(w, i);
     match d {
         Decoded::Char { code, next } => {
             if is_hidden(code) {
-                replacement();
+                replacement(rt);
                 return;
             }
-            bytes(text::part::part(w, i, next));
+            bytes(rt, text::part::part(w, i, next));
         }
-        Decoded::Bad => replacement(),
+        Decoded::Bad => replacement(rt),
         Decoded::End => {}
     }
 }
 
 // A blank for the character at an offset: a tab for a tab, and else a space.
-fn blank(w: &[u8], i: usize) {
+fn blank(rt: &HostRuntime, w: &[u8], i: usize) {
     let d = text::utf8::decode(w, i);
     match d {
         Decoded::Char { code, next: _ } => {
             if code == 9 {
-                byte(9);
+                byte(rt, 9);
                 return;
             }
-            byte(b' ');
+            byte(rt, b' ');
         }
-        Decoded::Bad => byte(b' '),
+        Decoded::Bad => byte(rt, b' '),
         Decoded::End => {}
     }
 }
 
-fn either(w: &[u8], i: usize, blanked: bool) {
+fn either(rt: &HostRuntime, w: &[u8], i: usize, blanked: bool) {
     if blanked {
-        blank(w, i);
+        blank(rt, w, i);
         return;
     }
-    character(w, i);
+    character(rt, w, i);
 }
 
 // The offset behind the character at an offset, or behind a byte of none.
@@ -120,24 +125,24 @@ pub fn behind(w: &[u8], i: usize) -> usize {
 }
 
 // The characters of w, or a blank for each. There are no more of them than bytes.
-fn characters(w: &[u8], blanked: bool) {
+fn characters(rt: &HostRuntime, w: &[u8], blanked: bool) {
     let mut i = 0;
     let mut left = w.len();
     while left > 0 {
-        either(w, i, blanked);
+        either(rt, w, i, blanked);
         i = behind(w, i);
         left -= 1;
     }
 }
 
 // The characters of w, safe for a terminal.
-pub fn shown(w: &[u8]) {
-    characters(w, false);
+pub fn shown(rt: &HostRuntime, w: &[u8]) {
+    characters(rt, w, false);
 }
 
 // A blank for each character of w.
-pub fn blanks(w: &[u8]) {
-    characters(w, true);
+pub fn blanks(rt: &HostRuntime, w: &[u8]) {
+    characters(rt, w, true);
 }
 
 // The offset behind so many characters that stand from an offset on.
@@ -176,33 +181,33 @@ pub fn is_shown(w: &[u8]) -> bool {
 }
 
 // What stands for characters that are left out.
-pub fn ellipsis() {
-    bytes(b"\xE2\x80\xA6");
+pub fn ellipsis(rt: &HostRuntime) {
+    bytes(rt, b"\xE2\x80\xA6");
 }
 
 // The first 60 characters of w, with a mark where there are more.
-pub fn cut(w: &[u8]) {
+pub fn cut(rt: &HostRuntime, w: &[u8]) {
     let end = skip(w, 0, 60);
-    shown(text::part::part(w, 0, end));
+    shown(rt, text::part::part(w, 0, end));
     if end < w.len() {
-        ellipsis();
+        ellipsis(rt);
     }
 }
 
 // A text between quotes.
-pub fn quoted(w: &[u8]) {
-    byte(b'"');
-    cut(w);
-    byte(b'"');
+pub fn quoted(rt: &HostRuntime, w: &[u8]) {
+    byte(rt, b'"');
+    cut(rt, w);
+    byte(rt, b'"');
 }
 
 // A word between backquotes.
-pub fn backquoted(w: &[u8]) {
-    byte(b'`');
-    cut(w);
-    byte(b'`');
+pub fn backquoted(rt: &HostRuntime, w: &[u8]) {
+    byte(rt, b'`');
+    cut(rt, w);
+    byte(rt, b'`');
 }
 
-pub fn line_end() {
-    byte(b'\n');
+pub fn line_end(rt: &HostRuntime) {
+    byte(rt, b'\n');
 }

@@ -3,16 +3,16 @@ use crate::sheets::Question;
 use crate::{layout, out, sheets};
 
 // The word of a kind: 1 lamp, 2 group, 3 device, 4 input device.
-pub fn kind_word(kind: u32) {
+pub fn kind_word(rt: &HostRuntime, kind: u32) {
     if kind == 4 {
-        out::bytes(b"input device");
+        out::bytes(rt, b"input device");
         return;
     }
-    out::word(b"lamp group device", kind);
+    out::word(rt, b"lamp group device", kind);
 }
 
 // The name that the sheet has for what is referred to, between parentheses, if it has one.
-pub fn name_on_sheet(sheet: &[u8], kind: u32, adapter: u32, number: u32) {
+pub fn name_on_sheet(rt: &HostRuntime, sheet: &[u8], kind: u32, adapter: u32, number: u32) {
     let q = Question {
         kind,
         adapter,
@@ -23,118 +23,118 @@ pub fn name_on_sheet(sheet: &[u8], kind: u32, adapter: u32, number: u32) {
     if name.len() == 0 {
         return;
     }
-    out::bytes(b" (");
-    out::quoted(name);
-    out::byte(b')');
+    out::bytes(rt, b" (");
+    out::quoted(rt, name);
+    out::byte(rt, b')');
 }
 
 // REF, of a kind: adapter and number.
-pub fn reference(sheet: &[u8], answer: &[u32], row: usize, k: usize, kind: u32) {
+pub fn reference(rt: &HostRuntime, sheet: &[u8], answer: &[u32], row: usize, k: usize, kind: u32) {
     if 11 < k {
         return;
     }
     let adapter = layout::get(answer, row, k);
     let number = layout::get(answer, row, k + 1);
-    kind_word(kind);
-    out::byte(b' ');
-    out::small(number);
-    out::bytes(b" on adapter ");
-    out::small(adapter);
-    name_on_sheet(sheet, kind, adapter, number);
+    kind_word(rt, kind);
+    out::byte(rt, b' ');
+    out::small(rt, number);
+    out::bytes(rt, b" on adapter ");
+    out::small(rt, adapter);
+    name_on_sheet(rt, sheet, kind, adapter, number);
 }
 
 // NAME: a range of the text's bytes.
-pub fn name(text: &[u8], answer: &[u32], row: usize, k: usize) {
+pub fn name(rt: &HostRuntime, text: &[u8], answer: &[u32], row: usize, k: usize) {
     if 11 < k {
         return;
     }
     let start = layout::get(answer, row, k) as usize;
     let length = layout::get(answer, row, k + 1) as usize;
-    out::byte(b'"');
-    out::shown(text::part::part(text, start, start + length));
-    out::byte(b'"');
+    out::byte(rt, b'"');
+    out::shown(rt, text::part::part(text, start, start + length));
+    out::byte(rt, b'"');
 }
 
 // TARGET: a lamp, a group, or all lamps of an adapter.
-pub fn target(sheet: &[u8], answer: &[u32], row: usize, k: usize) {
+pub fn target(rt: &HostRuntime, sheet: &[u8], answer: &[u32], row: usize, k: usize) {
     if 11 < k {
         return;
     }
     let kind = layout::get(answer, row, k);
     if kind == 3 {
-        out::bytes(b"all lamps of adapter ");
-        out::small(layout::get(answer, row, k + 1));
+        out::bytes(rt, b"all lamps of adapter ");
+        out::small(rt, layout::get(answer, row, k + 1));
         return;
     }
-    reference(sheet, answer, row, k + 1, kind);
+    reference(rt, sheet, answer, row, k + 1, kind);
 }
 
 // A time of day, in minutes since midnight.
-pub fn clock(minutes: u32) {
-    out::two_digits(minutes / 60);
-    out::byte(b':');
-    out::two_digits(minutes % 60);
+pub fn clock(rt: &HostRuntime, minutes: u32) {
+    out::two_digits(rt, minutes / 60);
+    out::byte(rt, b':');
+    out::two_digits(rt, minutes % 60);
 }
 
 // A part of a duration with its unit, and the space before it unless it is the first; nothing if it is 0.
-fn unit(first: bool, n: u32, name: &[u8]) {
+fn unit(rt: &HostRuntime, first: bool, n: u32, name: &[u8]) {
     if n == 0 {
         return;
     }
     if first {
-        out::small(n);
-        out::bytes(name);
+        out::small(rt, n);
+        out::bytes(rt, name);
         return;
     }
-    out::byte(b' ');
-    out::small(n);
-    out::bytes(name);
+    out::byte(rt, b' ');
+    out::small(rt, n);
+    out::bytes(rt, name);
 }
 
 // A duration in milliseconds, exactly: hours, minutes, seconds and milliseconds, those that are not 0.
-pub fn duration(ms: u32) {
+pub fn duration(rt: &HostRuntime, ms: u32) {
     if ms == 0 {
-        out::bytes(b"0ms");
+        out::bytes(rt, b"0ms");
         return;
     }
-    unit(true, ms / 3600000, b"h");
-    unit(ms < 3600000, ms / 60000 % 60, b"m");
-    unit(ms < 60000, ms / 1000 % 60, b"s");
-    unit(ms < 1000, ms % 1000, b"ms");
+    unit(rt, true, ms / 3600000, b"h");
+    unit(rt, ms < 3600000, ms / 60000 % 60, b"m");
+    unit(rt, ms < 60000, ms / 1000 % 60, b"s");
+    unit(rt, ms < 1000, ms % 1000, b"ms");
 }
 
 // An offset from a solar event, which is of 32 bits in two's complement; nothing for none.
-fn offset(offset: u32) {
+fn offset(rt: &HostRuntime, offset: u32) {
     if offset == 0 {
         return;
     }
-    out::bytes(b", ");
+    out::bytes(rt, b", ");
     if offset < 2147483648 {
-        duration(offset);
-        out::bytes(b" later");
+        duration(rt, offset);
+        out::bytes(rt, b" later");
         return;
     }
-    duration(4294967295 - offset + 1);
-    out::bytes(b" earlier");
+    duration(rt, 4294967295 - offset + 1);
+    out::bytes(rt, b" earlier");
 }
 
 // SUN and OFFSET: a solar event with its offset.
-pub fn solar(answer: &[u32], row: usize, k: usize) {
+pub fn solar(rt: &HostRuntime, answer: &[u32], row: usize, k: usize) {
     if 10 < k {
         return;
     }
-    out::word(b"sunrise sunset", layout::get(answer, row, k));
-    offset(layout::get(answer, row, k + 1));
+    out::word(rt, b"sunrise sunset", layout::get(answer, row, k));
+    offset(rt, layout::get(answer, row, k + 1));
 }
 
 // BOUND: a time of day, or a solar event with an offset.
-pub fn bound(answer: &[u32], row: usize, k: usize) {
+pub fn bound(rt: &HostRuntime, answer: &[u32], row: usize, k: usize) {
     if 10 < k {
         return;
     }
     if layout::get(answer, row, k) == 1 {
-        clock(layout::get(answer, row, k + 1));
+        clock(rt, layout::get(answer, row, k + 1));
         return;
     }
-    solar(answer, row, k + 1);
+    solar(rt, answer, row, k + 1);
 }

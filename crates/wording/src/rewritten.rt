@@ -247,7 +247,7 @@ fn mark(
 }
 
 // What is said of each.
-fn line(class: u32) {
+fn line(rt: &HostRuntime, class: u32) {
     let table =
         b"_ in one form: numbers, without leading zeros; 0 has no `-`, and only what is added has `+`
 0 left out: the layout; the rule is one line, with one space between any two tokens
@@ -257,15 +257,15 @@ fn line(class: u32) {
 4 in one form: days, one by one from mon; `on` is left out before all seven
 5 in one form: the arguments of inputs, by name in the order dev, inst, group, type, adapter; types are numbers
 6 in one form: `adapter=`, which stands only where the adapter is not the primary one";
-    aside::bytes(split::numbered(table, class));
-    aside::bytes(b"\n");
+    aside::bytes(rt, split::numbered(table, class));
+    aside::bytes(rt, b"\n");
 }
 
-fn lines(marks: &[u8]) {
+fn lines(rt: &HostRuntime, marks: &[u8]) {
     let mut class: u32 = 0;
     while class < 8 {
         if marks::has(marks, class as usize) {
-            line(class);
+            line(rt, class);
         }
         class += 1;
     }
@@ -283,22 +283,23 @@ fn mark_order(marks: &mut [u8]) {
 }
 
 // How many comments of a rule were left out, if any were.
-pub fn of_comments(rule: &[u8]) {
+pub fn of_comments(rt: &HostRuntime, rule: &[u8]) {
     let n = comments(rule);
     if n == 0 {
         return;
     }
-    aside::bytes(b"left out: ");
-    aside::small(n);
+    aside::bytes(rt, b"left out: ");
+    aside::small(rt, n);
     if n == 1 {
-        aside::bytes(b" comment\n");
+        aside::bytes(rt, b" comment\n");
         return;
     }
-    aside::bytes(b" comments\n");
+    aside::bytes(rt, b" comments\n");
 }
 
 // Says what was left out of a rule, and what is written in one form: only what is the case. Are there names that ids stand for?
 pub fn show(
+    rt: &HostRuntime,
     rule: &[u8],
     rule_words: &[u32],
     m: usize,
@@ -310,10 +311,10 @@ pub fn show(
     mark(rule, rule_words, m, written, written_words, n, &mut marks);
     mark_order(&mut marks);
     marks::set(&mut marks, LAYOUT, !is_laid_out(rule, rule_words, m));
-    of_comments(rule);
-    lines(&marks);
+    of_comments(rt, rule);
+    lines(rt, &marks);
     if marks::count(&marks) == 0 {
-        aside::bytes(b"nothing is left out: the rule was in this form\n");
+        aside::bytes(rt, b"nothing is left out: the rule was in this form\n");
     }
     marks::has(&marks, NAMES)
 }
@@ -342,10 +343,11 @@ fn has_names(rule: &[u8], words: &[u32], count: usize, rows: &[u8]) -> bool {
 }
 
 // Says what was left out of a rule for which rows of the archive were made, and if they have other names.
-pub fn show_rows(rule: &[u8], words: &[u32], count: usize, rows: &[u8]) {
-    of_comments(rule);
+pub fn show_rows(rt: &HostRuntime, rule: &[u8], words: &[u32], count: usize, rows: &[u8]) {
+    of_comments(rt, rule);
     if !has_names(rule, words, count, rows) {
         aside::bytes(
+            rt,
             b"in one form: names; the first on the sheet that fits stands for an id or another name\n",
         );
     }

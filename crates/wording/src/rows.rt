@@ -2,7 +2,7 @@
 use crate::{layout, out, say, split};
 
 // The trigger in a row, by its kind.
-fn trigger(text: &[u8], sheet: &[u8], answer: &[u32], row: usize) {
+fn trigger(rt: &HostRuntime, text: &[u8], sheet: &[u8], answer: &[u32], row: usize) {
     let table = b"_ when something else happens
 1 when %S1 reports %E5
 2 when %I1 becomes %O4
@@ -26,11 +26,11 @@ fn trigger(text: &[u8], sheet: &[u8], answer: &[u32], row: usize) {
 20 when the http trigger comes
 21 when a message comes on topic %q1";
     let sentence = split::numbered(table, layout::get(answer, row, 0));
-    say::show(text, sheet, answer, row, sentence);
+    say::show(rt, text, sheet, answer, row, sentence);
 }
 
 // The condition in a row, by its kind.
-fn condition(text: &[u8], sheet: &[u8], answer: &[u32], row: usize) {
+fn condition(rt: &HostRuntime, text: &[u8], sheet: &[u8], answer: &[u32], row: usize) {
     let table = b"_ something else holds
 1 the time is from %b1 to %b4
 2 the sun is %U1
@@ -49,24 +49,24 @@ fn condition(text: &[u8], sheet: &[u8], answer: &[u32], row: usize) {
 15 var %q1 %C3 %v4
 16 the day is in %w1";
     let sentence = split::numbered(table, layout::get(answer, row, 0));
-    say::show(text, sheet, answer, row, sentence);
+    say::show(rt, text, sheet, answer, row, sentence);
 }
 
 // The first condition begins with `if`, the others with `and`.
-fn conjunction(row: usize) {
+fn conjunction(rt: &HostRuntime, row: usize) {
     if row == 5 {
-        out::bytes(b"if ");
+        out::bytes(rt, b"if ");
         return;
     }
-    out::bytes(b"and ");
+    out::bytes(rt, b"and ");
 }
 
 // What is in a row: rows 1 to 4 are for triggers, 5 to 8 for conditions.
-pub fn show(text: &[u8], sheet: &[u8], answer: &[u32], row: usize) {
+pub fn show(rt: &HostRuntime, text: &[u8], sheet: &[u8], answer: &[u32], row: usize) {
     if row < 5 {
-        trigger(text, sheet, answer, row);
+        trigger(rt, text, sheet, answer, row);
         return;
     }
-    conjunction(row);
-    condition(text, sheet, answer, row);
+    conjunction(rt, row);
+    condition(rt, text, sheet, answer, row);
 }

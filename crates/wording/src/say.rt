@@ -22,7 +22,7 @@ fn digit(b: u8) -> usize {
 }
 
 // A word for a code, which counts from 1, from the list of a letter.
-fn choice(letter: &[u8], code: u32) {
+fn choice(rt: &HostRuntime, letter: &[u8], code: u32) {
     let lists = b"_ -
 C == != >= <= > <
 D offline online
@@ -34,96 +34,118 @@ O occupied vacant
 U up down
 W above below
 X enabled overridden";
-    out::word(split::entry(lists, letter), code);
+    out::word(rt, split::entry(lists, letter), code);
 }
 
 // The end of a word for so many.
-fn plural(n: u32) {
+fn plural(rt: &HostRuntime, n: u32) {
     if n == 1 {
         return;
     }
-    out::byte(b's');
+    out::byte(rt, b's');
 }
 
 // Several of a kind.
-fn kinds(kind: u32) {
+fn kinds(rt: &HostRuntime, kind: u32) {
     if kind == 4 {
-        out::bytes(b"input devices");
+        out::bytes(rt, b"input devices");
         return;
     }
-    out::word(b"lamps groups devices", kind);
+    out::word(rt, b"lamps groups devices", kind);
 }
 
 // A part that is said by the row alone.
-fn of_row(answer: &[u32], row: usize, letter: &[u8], k: usize) {
+fn of_row(rt: &HostRuntime, answer: &[u32], row: usize, letter: &[u8], k: usize) {
     let n = layout::get(answer, row, k);
     let c = byte_at(letter, 0);
     match c {
-        b'n' => out::small(n),
-        b'P' => plural(n),
-        b'K' => kinds(n),
-        b'c' => parts::clock(n),
-        b'm' => parts::duration(n),
-        b's' => parts::solar(answer, row, k),
-        b'b' => parts::bound(answer, row, k),
-        b'w' => day::set(n),
-        b'o' => day::on(n),
-        b'y' => day::behind_offset(answer, row, k),
-        b'E' => inputs::event(answer, row, k),
-        _ => choice(letter, n),
+        b'n' => out::small(rt, n),
+        b'P' => plural(rt, n),
+        b'K' => kinds(rt, n),
+        b'c' => parts::clock(rt, n),
+        b'm' => parts::duration(rt, n),
+        b's' => parts::solar(rt, answer, row, k),
+        b'b' => parts::bound(rt, answer, row, k),
+        b'w' => day::set(rt, n),
+        b'o' => day::on(rt, n),
+        b'y' => day::behind_offset(rt, answer, row, k),
+        b'E' => inputs::event(rt, answer, row, k),
+        _ => choice(rt, letter, n),
     }
 }
 
 // A part that is said with the text or the sheet, or with a set that is given in the place of the text.
-fn part(text: &[u8], sheet: &[u8], answer: &[u32], row: usize, letter: &[u8], k: usize) {
+fn part(
+    rt: &HostRuntime,
+    text: &[u8],
+    sheet: &[u8],
+    answer: &[u32],
+    row: usize,
+    letter: &[u8],
+    k: usize,
+) {
     let c = byte_at(letter, 0);
     match c {
-        b'l' => parts::reference(sheet, answer, row, k, 1),
-        b'g' => parts::reference(sheet, answer, row, k, 2),
-        b'd' => parts::reference(sheet, answer, row, k, 3),
-        b'i' => parts::reference(sheet, answer, row, k, 4),
-        b't' => parts::target(sheet, answer, row, k),
-        b'I' => inputs::input(sheet, answer, row, k),
-        b'S' => inputs::selector(sheet, answer, row, k),
-        b'q' => parts::name(text, answer, row, k),
-        b'v' => value::value(text, sheet, answer, row, k),
-        b'M' => items::plain(text),
-        _ => of_row(answer, row, letter, k),
+        b'l' => parts::reference(rt, sheet, answer, row, k, 1),
+        b'g' => parts::reference(rt, sheet, answer, row, k, 2),
+        b'd' => parts::reference(rt, sheet, answer, row, k, 3),
+        b'i' => parts::reference(rt, sheet, answer, row, k, 4),
+        b't' => parts::target(rt, sheet, answer, row, k),
+        b'I' => inputs::input(rt, sheet, answer, row, k),
+        b'S' => inputs::selector(rt, sheet, answer, row, k),
+        b'q' => parts::name(rt, text, answer, row, k),
+        b'v' => value::value(rt, text, sheet, answer, row, k),
+        b'M' => items::plain(rt, text),
+        _ => of_row(rt, answer, row, letter, k),
     }
 }
 
 // A part, and what stands behind it up to the next.
-fn piece(text: &[u8], sheet: &[u8], answer: &[u32], row: usize, w: &[u8]) {
+fn piece(rt: &HostRuntime, text: &[u8], sheet: &[u8], answer: &[u32], row: usize, w: &[u8]) {
     let k = digit(byte_at(w, 1));
-    part(text, sheet, answer, row, text::part::part(w, 0, 1), k);
-    out::bytes(text::part::part(w, 2, w.len()));
+    part(rt, text, sheet, answer, row, text::part::part(w, 0, 1), k);
+    out::bytes(rt, text::part::part(w, 2, w.len()));
 }
 
 // A sentence over a row, with the text and the sheet that its words speak of.
-pub fn show(text: &[u8], sheet: &[u8], answer: &[u32], row: usize, sentence: &[u8]) {
-    out::bytes(split::piece(sentence, 0, b'%'));
+pub fn show(
+    rt: &HostRuntime,
+    text: &[u8],
+    sheet: &[u8],
+    answer: &[u32],
+    row: usize,
+    sentence: &[u8],
+) {
+    out::bytes(rt, split::piece(sentence, 0, b'%'));
     let mut i = 0;
     let mut left = split::count(sentence, b'%');
     while left > 0 {
         i = split::next(sentence, i, b'%');
-        piece(text, sheet, answer, row, split::piece(sentence, i, b'%'));
+        piece(
+            rt,
+            text,
+            sheet,
+            answer,
+            row,
+            split::piece(sentence, i, b'%'),
+        );
         left -= 1;
     }
 }
 
 // A sentence over a few numbers.
-pub fn numbers(row: &[u32], sentence: &[u8]) {
-    show(b"", b"", row, 0, sentence);
+pub fn numbers(rt: &HostRuntime, row: &[u32], sentence: &[u8]) {
+    show(rt, b"", b"", row, 0, sentence);
 }
 
 // A sentence over one number, `%n0`.
-pub fn number(n: u32, sentence: &[u8]) {
+pub fn number(rt: &HostRuntime, n: u32, sentence: &[u8]) {
     let row = [n];
-    numbers(&row, sentence);
+    numbers(rt, &row, sentence);
 }
 
 // A sentence over a set, whose numbers are `%M0`, and a number, `%n0`.
-pub fn set(marks: &[u8], n: u32, sentence: &[u8]) {
+pub fn set(rt: &HostRuntime, marks: &[u8], n: u32, sentence: &[u8]) {
     let row = [n];
-    show(marks, b"", &row, 0, sentence);
+    show(rt, marks, b"", &row, 0, sentence);
 }

@@ -73,7 +73,7 @@ fn wrong(l: &[u8], line: u32) -> u32 {
     of_line(l)
 }
 
-fn remedy(l: &[u8], line: u32) {
+fn remedy(rt: &HostRuntime, l: &[u8], line: u32) {
     let table = b"_ a row begins with adapter, party, lamp, group, device or input and a comma
 1 a sheet has at most 512 rows behind its first line
 2 a line may have one CR, at its end: remove any other
@@ -85,37 +85,44 @@ fn remedy(l: &[u8], line: u32) {
 8 the adapter is 0 to 255, the number 0 to 63 (of a group 0 to 15), without leading zeros or blanks; the name has 1 to 48 bytes and no quote
 9 behind `party,` stand an adapter and a party, each a number from 0 to 255 without leading zeros or blanks, and a comma between them
 10 an adapter has one party row, and a row above says already whose this adapter is: remove one of the two";
-    out::entry(table, wrong(l, line));
+    out::entry(rt, table, wrong(l, line));
 }
 
-fn too_long(name: &[u8]) {
-    out::shown(name);
-    out::bytes(b": refusal 3: the name sheet has more than 16,384 bytes\n");
-    out::bytes(b"  = help: leave out rows that no rule of this controller uses\n");
+fn too_long(rt: &HostRuntime, name: &[u8]) {
+    out::shown(rt, name);
+    out::bytes(
+        rt,
+        b": refusal 3: the name sheet has more than 16,384 bytes\n",
+    );
+    out::bytes(
+        rt,
+        b"  = help: leave out rows that no rule of this controller uses\n",
+    );
 }
 
 // File, line and what is wrong.
-fn head(name: &[u8], line: u32) {
-    out::shown(name);
+fn head(rt: &HostRuntime, name: &[u8], line: u32) {
+    out::shown(rt, name);
     say::number(
+        rt,
         line,
         b":%n0: refusal 3: this line of the name sheet is not well formed\n",
     );
 }
 
 // The diagnostic for a line of the sheet, 0 if the sheet is too long, up to the last line of the output.
-pub fn show(sheet: &[u8], name: &[u8], line: u32) {
+pub fn show(rt: &HostRuntime, sheet: &[u8], name: &[u8], line: u32) {
     if line == 0 {
-        too_long(name);
+        too_long(rt, name);
         return;
     }
     let l = line::without_return(split::line_at(sheet, split::line_start(sheet, line)));
-    head(name, line);
-    source::empty_line(line);
-    source::numbered(l, line, 0);
-    source::empty_line(line);
-    source::margin(line, b'=');
-    out::bytes(b" help: ");
-    remedy(l, line);
-    out::line_end();
+    head(rt, name, line);
+    source::empty_line(rt, line);
+    source::numbered(rt, l, line, 0);
+    source::empty_line(rt, line);
+    source::margin(rt, line, b'=');
+    out::bytes(rt, b" help: ");
+    remedy(rt, l, line);
+    out::line_end(rt);
 }

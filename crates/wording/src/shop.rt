@@ -8,12 +8,12 @@ pub fn is_of_shop(number: u32) -> bool {
     57 <= number && number <= 59
 }
 
-pub fn title(text: &[u8], words: &[u32], f: Fault) {
+pub fn title(rt: &HostRuntime, text: &[u8], words: &[u32], f: Fault) {
     let table = b"_ under the shop profile %K0 are named, not numbered
 58 the shop profile leaves out `broadcast`
 59 the shop profile leaves out readings of `event`";
     let row = [reference::kind(text, words, f.token)];
-    say::numbers(&row, split::numbered(table, f.number));
+    say::numbers(rt, &row, split::numbered(table, f.number));
 }
 
 // The adapter of a reference in which this one is written, 256 for none.
@@ -61,13 +61,13 @@ fn mark(sheet: &[u8], settings: Settings, of: Numbered, marks: &mut [u8]) {
 }
 
 // A name, and its adapter behind it if it needs one that is not written.
-fn argument(name: &[u8], form: Form, of: Numbered, scope: u32) {
-    out::quoted(name);
+fn argument(rt: &HostRuntime, name: &[u8], form: Form, of: Numbered, scope: u32) {
+    out::quoted(rt, name);
     match form {
         Form::WithAdapter => {
             if scope == 256 {
-                out::bytes(b", ");
-                items::key(of.adapter as usize);
+                out::bytes(rt, b", ");
+                items::key(rt, of.adapter as usize);
             }
         }
         Form::Alone => {}
@@ -76,84 +76,91 @@ fn argument(name: &[u8], form: Form, of: Numbered, scope: u32) {
 }
 
 // The name as it is written in the place of the number: an argument of an input, and else a whole reference.
-fn item(sheet: &[u8], settings: Settings, of: Numbered, scope: u32, k: u32) {
+fn item(rt: &HostRuntime, sheet: &[u8], settings: Settings, of: Numbered, scope: u32, k: u32) {
     let name = names::name_at(sheet, settings, of, k);
     let form = names::form_of(sheet, settings, name, of);
     if of.kind == 4 {
-        argument(name, form, of, scope);
+        argument(rt, name, form, of, scope);
         return;
     }
-    out::word(b"lamp group device", of.kind);
-    out::byte(b'(');
-    argument(name, form, of, 256);
-    out::byte(b')');
+    out::word(rt, b"lamp group device", of.kind);
+    out::byte(rt, b'(');
+    argument(rt, name, form, of, 256);
+    out::byte(rt, b')');
 }
 
 // The names in a set, with `or` before the last.
-fn items(sheet: &[u8], settings: Settings, of: Numbered, scope: u32, marks: &[u8]) {
+fn items(
+    rt: &HostRuntime,
+    sheet: &[u8],
+    settings: Settings,
+    of: Numbered,
+    scope: u32,
+    marks: &[u8],
+) {
     let all = marks::count(marks);
     let mut k = marks::first(marks);
     let mut left = all;
     while left > 0 {
-        items::separator(left, all, b" or ");
-        item(sheet, settings, of, scope, text::place::held(k));
+        items::separator(rt, left, all, b" or ");
+        item(rt, sheet, settings, of, scope, text::place::held(k));
         k = marks::after(marks, k);
         left -= 1;
     }
 }
 
 // What the id refers to, in words.
-fn this(of: Numbered) {
-    parts::kind_word(of.kind);
+fn this(rt: &HostRuntime, of: Numbered) {
+    parts::kind_word(rt, of.kind);
     let row = [of.number, of.adapter];
-    say::numbers(&row, b" %n0 on adapter %n1");
+    say::numbers(rt, &row, b" %n0 on adapter %n1");
 }
 
 // The row that gives it a name.
-fn row_for(of: Numbered) {
-    out::word(b"lamp group device input", of.kind);
+fn row_for(rt: &HostRuntime, of: Numbered) {
+    out::word(rt, b"lamp group device input", of.kind);
     let row = [of.adapter, of.number];
-    say::numbers(&row, b",%n0,%n1,NAME");
+    say::numbers(rt, &row, b",%n0,%n1,NAME");
 }
 
 // No name can be written in the place of the number: the sheet has none, or none that a rule can have and that means it alone.
-fn nameless(sheet: &[u8], settings: Settings, of: Numbered, party: u8) {
-    lookup::for_party(sheet, party);
+fn nameless(rt: &HostRuntime, sheet: &[u8], settings: Settings, of: Numbered, party: u8) {
+    lookup::for_party(rt, sheet, party);
     if names::name_at(sheet, settings, of, 0).len() == 0 {
-        out::bytes(b"the sheet has no name for ");
+        out::bytes(rt, b"the sheet has no name for ");
     } else {
-        out::bytes(b"the sheet has no name that a rule could write for ");
+        out::bytes(rt, b"the sheet has no name that a rule could write for ");
     }
-    this(of);
-    out::bytes(b": add a row ");
-    row_for(of);
+    this(rt, of);
+    out::bytes(rt, b": add a row ");
+    row_for(rt, of);
 }
 
 // 57: the names that the sheet has for the number.
-fn named(text: &[u8], sheet: &[u8], words: &[u32], f: Fault) {
+fn named(rt: &HostRuntime, text: &[u8], sheet: &[u8], words: &[u32], f: Fault) {
     let mut marks = [0u8; rows::MAX_ROWS as usize];
     let scope = reference::adapter(text, words, f.count, f.token);
     let of = numbered(text, words, f, scope);
     let settings = seen::settings(sheet, f.call);
     mark(sheet, settings, of, &mut marks);
     if marks::count(&marks) == 0 {
-        nameless(sheet, settings, of, f.call.party);
+        nameless(rt, sheet, settings, of, f.call.party);
         return;
     }
-    out::bytes(b"write ");
-    items(sheet, settings, of, scope, &marks);
+    out::bytes(rt, b"write ");
+    items(rt, sheet, settings, of, scope, &marks);
     if of.kind == 4 {
-        say::number(of.number, b" in the place of %n0");
+        say::number(rt, of.number, b" in the place of %n0");
     }
 }
 
-pub fn help(text: &[u8], sheet: &[u8], words: &[u32], f: Fault) {
+pub fn help(rt: &HostRuntime, text: &[u8], sheet: &[u8], words: &[u32], f: Fault) {
     if f.number == 57 {
-        named(text, sheet, words, f);
+        named(rt, text, sheet, words, f);
         return;
     }
     let table =
         b"_ compare with a number, or with a reading of `lamp`, `group`, `input`, `time`, `sun` or `var`
 58 write a lamp or a group by its name, as in lamp(\"Till\") or group(\"Sales floor\")";
-    out::entry(table, f.number);
+    out::entry(rt, table, f.number);
 }

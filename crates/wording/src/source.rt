@@ -1,19 +1,22 @@
 // The line of a text with a mark under a place. Of a long line a window of 100 characters is shown.
-use crate::{out, split};
+use crate::{digits, out, split};
 
 // As many spaces as a number has digits, and a sign behind one more.
-pub fn margin(line: u32, sign: u8) {
-    let mut digits = [0u8; 20];
-    let k = io::decimal(line as u64, &mut digits);
-    out::bytes(text::part::part(b"                    ", 0, k));
-    out::byte(b' ');
-    out::byte(sign);
+pub fn margin(rt: &HostRuntime, line: u32, sign: u8) {
+    let mut buffer = [0u8; digits::MOST];
+    let first = digits::decimal(line as u64, &mut buffer);
+    out::bytes(
+        rt,
+        text::part::part(b"                    ", first, digits::MOST),
+    );
+    out::byte(rt, b' ');
+    out::byte(rt, sign);
 }
 
 // A margin and a line's end.
-pub fn empty_line(line: u32) {
-    margin(line, b'|');
-    out::line_end();
+pub fn empty_line(rt: &HostRuntime, line: u32) {
+    margin(rt, line, b'|');
+    out::line_end(rt);
 }
 
 // The line with a number, without a CR at its end.
@@ -54,57 +57,57 @@ fn left_out(l: &[u8], column: usize) -> usize {
 }
 
 // What stands for the characters that are left out at the front, if there are any.
-fn before(first: usize, sign: &[u8]) {
+fn before(rt: &HostRuntime, first: usize, sign: &[u8]) {
     if first == 0 {
         return;
     }
-    out::bytes(sign);
+    out::bytes(rt, sign);
 }
 
 // The line, or 100 characters of it from so many on.
-fn window(l: &[u8], first: usize) {
+fn window(rt: &HostRuntime, l: &[u8], first: usize) {
     let start = out::skip(l, 0, first);
     let rest = text::part::part(l, start, l.len());
     let end = out::skip(rest, 0, 100);
-    before(first, b"\xE2\x80\xA6");
-    out::shown(text::part::part(rest, 0, end));
+    before(rt, first, b"\xE2\x80\xA6");
+    out::shown(rt, text::part::part(rest, 0, end));
     if end < rest.len() {
-        out::ellipsis();
+        out::ellipsis(rt);
     }
 }
 
 // What stands before a column, in blanks.
-fn indent(l: &[u8], first: usize, column: usize) {
+fn indent(rt: &HostRuntime, l: &[u8], first: usize, column: usize) {
     let start = out::skip(l, 0, first);
     let end = if column == 0 {
         0
     } else {
         out::skip(l, 0, column - 1)
     };
-    before(first, b" ");
-    out::blanks(text::part::part(l, start, end));
+    before(rt, first, b" ");
+    out::blanks(rt, text::part::part(l, start, end));
 }
 
 // A line behind its number.
-pub fn numbered(l: &[u8], line: u32, first: usize) {
-    out::small(line);
-    out::bytes(b" |");
+pub fn numbered(rt: &HostRuntime, l: &[u8], line: u32, first: usize) {
+    out::small(rt, line);
+    out::bytes(rt, b" |");
     if l.len() == 0 {
-        out::line_end();
+        out::line_end(rt);
         return;
     }
-    out::byte(b' ');
-    window(l, first);
-    out::line_end();
+    out::byte(rt, b' ');
+    window(rt, l, first);
+    out::line_end(rt);
 }
 
 // The line of a place, and a mark under the place; what is said of it goes behind the mark.
-pub fn marked(l: &[u8], line: u32, column: u32) {
+pub fn marked(rt: &HostRuntime, l: &[u8], line: u32, column: u32) {
     let first = left_out(l, column as usize);
-    empty_line(line);
-    numbered(l, line, first);
-    margin(line, b'|');
-    out::byte(b' ');
-    indent(l, first, column as usize);
-    out::bytes(b"^ ");
+    empty_line(rt, line);
+    numbered(rt, l, line, first);
+    margin(rt, line, b'|');
+    out::byte(rt, b' ');
+    indent(rt, l, first, column as usize);
+    out::bytes(rt, b"^ ");
 }

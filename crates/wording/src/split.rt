@@ -1,12 +1,9 @@
 // Bytes that a separator cuts into pieces: a list of words at its spaces, a text at its line ends.
+use crate::digits;
 
 // The index of the first byte `b` from an index on; the length where there is none.
 pub fn find(s: &[u8], at: usize, b: u8) -> usize {
-    let len = s.len();
-    if len <= at {
-        return len;
-    }
-    bytes::scan::find(s, at, len, b)
+    text::find::find(s, at, b)
 }
 
 // How many bytes are `b`.
@@ -91,7 +88,7 @@ pub fn entry<'a, 'b>(table: &'a [u8], word: &'b [u8]) -> &'a [u8] {
 
 // What a table says of a number.
 pub fn numbered(table: &[u8], n: u32) -> &[u8] {
-    let mut digits = [0u8; 20];
-    let k = io::decimal(n as u64, &mut digits);
-    entry(table, &digits[..k])
+    let mut buffer = [0u8; digits::MOST];
+    let first = digits::decimal(n as u64, &mut buffer);
+    entry(table, &buffer[first..])
 }

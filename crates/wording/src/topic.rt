@@ -23,28 +23,32 @@ fn forbidden(w: &[u8]) -> usize {
 }
 
 // 64: nothing, or a character.
-fn unfit(w: &[u8]) {
+fn unfit(rt: &HostRuntime, w: &[u8]) {
     if w.len() == 0 {
-        out::bytes(b"this topic is empty");
+        out::bytes(rt, b"this topic is empty");
         return;
     }
-    stands::character(w, forbidden(w));
-    out::bytes(b" may not stand in a topic");
+    stands::character(rt, w, forbidden(w));
+    out::bytes(rt, b" may not stand in a topic");
 }
 
-pub fn title(text: &[u8], words: &[u32], f: Fault) {
+pub fn title(rt: &HostRuntime, text: &[u8], words: &[u32], f: Fault) {
     if f.number == 64 {
-        unfit(tokens::record::bytes(text, words, f.token));
+        unfit(rt, tokens::record::bytes(text, words, f.token));
         return;
     }
     if f.number == 65 {
         say::number(
+            rt,
             tokens::record::length(words, f.token),
             b"a topic has at most 48 bytes, and this one has %n0",
         );
         return;
     }
-    out::bytes(b"this topic is new, and eight others or more are named already");
+    out::bytes(
+        rt,
+        b"this topic is new, and eight others or more are named already",
+    );
 }
 
 // The first lent topic that nearly is another; no bytes where there is none.
@@ -70,20 +74,24 @@ fn ends_with_return(l: &[u8]) -> bool {
 }
 
 // 66: a lent topic is nearly this one, or there is none.
-fn nearly(l: &[u8]) {
+fn nearly(rt: &HostRuntime, l: &[u8]) {
     if l.len() == 0 {
         out::bytes(
+            rt,
             b"write a topic that is named already, or drop one from an earlier rule and from the file behind --topics",
         );
         return;
     }
     if ends_with_return(l) {
-        out::bytes(b"the lines of the file behind --topics end with CR LF: save it with LF alone");
+        out::bytes(
+            rt,
+            b"the lines of the file behind --topics end with CR LF: save it with LF alone",
+        );
         return;
     }
-    out::bytes(b"did you mean ");
-    out::quoted(l);
-    out::bytes(b"? topics are compared byte for byte");
+    out::bytes(rt, b"did you mean ");
+    out::quoted(rt, l);
+    out::bytes(rt, b"? topics are compared byte for byte");
 }
 
 // The topic of 66, which stands behind the place.
@@ -94,16 +102,20 @@ fn behind<'a, 'b>(text: &'a [u8], words: &'b [u32], f: Fault) -> &'a [u8] {
     &text[..0]
 }
 
-pub fn help(text: &[u8], lent: &[u8], words: &[u32], f: Fault) {
+pub fn help(rt: &HostRuntime, text: &[u8], lent: &[u8], words: &[u32], f: Fault) {
     if f.number == 64 {
         out::bytes(
+            rt,
             b"write one exact topic of 1 to 48 bytes, without `+` and `#`, control characters and noncharacters",
         );
         return;
     }
     if f.number == 65 {
-        out::bytes(b"choose a shorter topic; a letter outside ASCII has two bytes or more");
+        out::bytes(
+            rt,
+            b"choose a shorter topic; a letter outside ASCII has two bytes or more",
+        );
         return;
     }
-    nearly(near_topic(lent, behind(text, words, f)));
+    nearly(rt, near_topic(lent, behind(text, words, f)));
 }

@@ -42,23 +42,23 @@ fn reason(sheet: &[u8], settings: Settings, q: Question) -> u32 {
     NO_ROW
 }
 
-fn title(reason: u32) {
+fn title(rt: &HostRuntime, reason: u32) {
     let table = b"_ none of the names that the sheet has for it can stand in a row
 1 no row of the sheet lists its adapter
 2 the sheet has no row with a name for it";
-    out::entry(table, reason);
+    out::entry(rt, table, reason);
 }
 
 // Why a name does not fit that the sheet has for it.
-fn unfit(name: &[u8], kind: u32, adapter: u32) {
-    out::quoted(name);
+fn unfit(rt: &HostRuntime, name: &[u8], kind: u32, adapter: u32) {
+    out::quoted(rt, name);
     if 0 < split::count(name, b',') {
-        out::bytes(b" has a comma");
+        out::bytes(rt, b" has a comma");
         return;
     }
-    out::bytes(b" stands in several ");
-    out::word(b"lamp group device", kind);
-    say::number(adapter, b" rows of adapter %n0");
+    out::bytes(rt, b" stands in several ");
+    out::word(rt, b"lamp group device", kind);
+    say::number(rt, adapter, b" rows of adapter %n0");
 }
 
 // The rows that have one name in the place of any.
@@ -72,7 +72,7 @@ fn of_name(q: Question) -> Question {
 }
 
 // What is said of the name in the line at an index, if it is one for it that no line before has.
-fn note(sheet: &[u8], q: Question, at: usize) {
+fn note(rt: &HostRuntime, sheet: &[u8], q: Question, at: usize) {
     let l = split::line_at(sheet, at);
     if !sheets::fits(l, q, b"") {
         return;
@@ -81,46 +81,53 @@ fn note(sheet: &[u8], q: Question, at: usize) {
     if sheets::find(sheet, of_name(q), name) < at {
         return;
     }
-    source::margin(0, b'=');
-    out::bytes(b" note: ");
-    unfit(name, q.kind, q.adapter);
-    out::line_end();
+    source::margin(rt, 0, b'=');
+    out::bytes(rt, b" note: ");
+    unfit(rt, name, q.kind, q.adapter);
+    out::line_end(rt);
 }
 
-fn notes(sheet: &[u8], q: Question) {
+fn notes(rt: &HostRuntime, sheet: &[u8], q: Question) {
     let mut at = 0;
     let mut n: u32 = 0;
     while n < 513 {
-        note(sheet, q, at);
+        note(rt, sheet, q, at);
         at = split::next_line(sheet, at);
         n += 1;
     }
 }
 
 // The way out.
-fn help(reason: u32, adapter: u32, sheet_name: &[u8]) {
+fn help(rt: &HostRuntime, reason: u32, adapter: u32, sheet_name: &[u8]) {
     let table = b"_ add a row with a name of its own without a comma to
 1 put the row `adapter,%n0` into
 2 add a row with a name for it to";
-    source::margin(0, b'=');
-    out::bytes(b" help: ");
-    say::number(adapter, split::numbered(table, reason));
-    out::byte(b' ');
-    out::shown(sheet_name);
-    out::line_end();
+    source::margin(rt, 0, b'=');
+    out::bytes(rt, b" help: ");
+    say::number(rt, adapter, split::numbered(table, reason));
+    out::byte(rt, b' ');
+    out::shown(rt, sheet_name);
+    out::line_end(rt);
 }
 
 // What is wrong with the trigger in a row, in words that follow `and`.
-pub fn wrong(sheet: &[u8], settings: Settings, answer: &[u32], row: usize) {
-    title(reason(sheet, settings, asked(answer, row)));
+pub fn wrong(rt: &HostRuntime, sheet: &[u8], settings: Settings, answer: &[u32], row: usize) {
+    title(rt, reason(sheet, settings, asked(answer, row)));
 }
 
 // What is said of each name, if there are any that do not fit, and the way out.
-pub fn show(sheet: &[u8], settings: Settings, answer: &[u32], row: usize, sheet_name: &[u8]) {
+pub fn show(
+    rt: &HostRuntime,
+    sheet: &[u8],
+    settings: Settings,
+    answer: &[u32],
+    row: usize,
+    sheet_name: &[u8],
+) {
     let q = asked(answer, row);
     let reason = reason(sheet, settings, q);
     if reason == NO_NAME {
-        notes(sheet, q);
+        notes(rt, sheet, q);
     }
-    help(reason, q.adapter, sheet_name);
+    help(rt, reason, q.adapter, sheet_name);
 }

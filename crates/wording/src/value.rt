@@ -13,24 +13,24 @@ fn size(low: u32, high: u32) -> u64 {
     18446744073709551615 - (all - 1)
 }
 
-fn signed(low: u32, high: u32) {
+fn signed(rt: &HostRuntime, low: u32, high: u32) {
     if high < 2147483648 {
-        out::number(size(low, high));
+        out::number(rt, size(low, high));
         return;
     }
-    out::byte(b'-');
-    out::number(size(low, high));
+    out::byte(rt, b'-');
+    out::number(rt, size(low, high));
 }
 
 // A number that is added: a sign in any case.
-fn added(low: u32, high: u32) {
+fn added(rt: &HostRuntime, low: u32, high: u32) {
     if high < 2147483648 {
-        out::bytes(b" + ");
-        out::number(size(low, high));
+        out::bytes(rt, b" + ");
+        out::number(rt, size(low, high));
         return;
     }
-    out::bytes(b" - ");
-    out::number(size(low, high));
+    out::bytes(rt, b" - ");
+    out::number(rt, size(low, high));
 }
 
 // What a reading is of: 1 a lamp, 2 a group, 4 an input, 5 a variable, 0 none of these.
@@ -51,45 +51,45 @@ pub fn kind_of(code: u32) -> u32 {
 }
 
 // What is read: a property of something, or what needs nothing else.
-fn property(code: u32, kind: u32) {
+fn property(rt: &HostRuntime, code: u32, kind: u32) {
     let list =
         b"level cct is_on last_level any_on all_off member_count occupied light position last_event_age time.now time.hour time.minute time.weekday sun.rise sun.set sun.is_up event.value event.device event.instance event.option";
     if kind == 0 {
-        out::word(list, code);
+        out::word(rt, list, code);
         return;
     }
-    out::bytes(b"the ");
-    out::word(list, code);
-    out::bytes(b" of ");
+    out::bytes(rt, b"the ");
+    out::word(rt, list, code);
+    out::bytes(rt, b" of ");
 }
 
 // The lamp, group or input that is read, if there is one.
-fn owner(sheet: &[u8], answer: &[u32], row: usize, k: usize, kind: u32) {
+fn owner(rt: &HostRuntime, sheet: &[u8], answer: &[u32], row: usize, k: usize, kind: u32) {
     match kind {
         0 => {}
-        4 => inputs::input(sheet, answer, row, k),
-        _ => parts::reference(sheet, answer, row, k, kind),
+        4 => inputs::input(rt, sheet, answer, row, k),
+        _ => parts::reference(rt, sheet, answer, row, k, kind),
     }
 }
 
 // A reading, whose code is word k of the row.
-fn reading(text: &[u8], sheet: &[u8], answer: &[u32], row: usize, k: usize) {
+fn reading(rt: &HostRuntime, text: &[u8], sheet: &[u8], answer: &[u32], row: usize, k: usize) {
     if 11 < k {
         return;
     }
     let code = layout::get(answer, row, k);
     let kind = kind_of(code);
     if kind == 5 {
-        out::bytes(b"var ");
-        parts::name(text, answer, row, k + 1);
+        out::bytes(rt, b"var ");
+        parts::name(rt, text, answer, row, k + 1);
         return;
     }
-    property(code, kind);
-    owner(sheet, answer, row, k + 1, kind);
+    property(rt, code, kind);
+    owner(rt, sheet, answer, row, k + 1, kind);
 }
 
 // VALUE, whose kind is word k of the row; or a text.
-pub fn value(text: &[u8], sheet: &[u8], answer: &[u32], row: usize, k: usize) {
+pub fn value(rt: &HostRuntime, text: &[u8], sheet: &[u8], answer: &[u32], row: usize, k: usize) {
     if 5 < k {
         return;
     }
@@ -97,16 +97,16 @@ pub fn value(text: &[u8], sheet: &[u8], answer: &[u32], row: usize, k: usize) {
     let low = layout::get(answer, row, k + 5);
     let high = layout::get(answer, row, k + 6);
     if kind == 1 {
-        signed(low, high);
+        signed(rt, low, high);
         return;
     }
     if kind == 4 {
-        out::bytes(b"text ");
-        parts::name(text, answer, row, k + 1);
+        out::bytes(rt, b"text ");
+        parts::name(rt, text, answer, row, k + 1);
         return;
     }
-    reading(text, sheet, answer, row, k + 1);
+    reading(rt, text, sheet, answer, row, k + 1);
     if kind == 3 {
-        added(low, high);
+        added(rt, low, high);
     }
 }
