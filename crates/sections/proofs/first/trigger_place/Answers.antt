@@ -1,0 +1,54 @@
+use borrow.Author.Rules.{rules}
+use Rattle.text.specs.Split.{split}
+use Rattle.tokens.specs.Phrase.{words_in}
+use Rattle.sections.specs.First.{place_from}
+use Rattle.sections.proofs.FirstLaws.{placed-from, places}
+use Rattle.sections.proofs.first.trigger_place.Goals as goal
+
+pub same-requires : goal.same-requires
+unfolding words_in split place_from
+same-requires c = search rules
+
+pub returns-then-same : goal.returns-then-same
+unfolding words_in split place_from
+returns-then-same c = placed-from _ _ (search places depth 24)
+
+pub same-requires-2 : goal.same-requires-2
+unfolding words_in split place_from
+same-requires-2 c = search rules
+
+pub returns-then-same-2 : goal.returns-then-same-2
+unfolding words_in split place_from
+returns-then-same-2 c = placed-from _ _ (search places depth 24)
+
+pub same-requires-3 : goal.same-requires-3
+unfolding words_in split place_from
+same-requires-3 c = search rules
+
+pub returns-then-same-3 : goal.returns-then-same-3
+unfolding words_in split place_from
+returns-then-same-3 c = placed-from _ _ (search places depth 24)
+
+pub same-requires-4 : goal.same-requires-4
+unfolding words_in split place_from
+same-requires-4 c = search rules
+
+pub returns-then-same-4 : goal.returns-then-same-4
+unfolding words_in split place_from
+returns-then-same-4 c = placed-from _ _ (search places depth 24)
+
+pub same-requires-5 : goal.same-requires-5
+unfolding words_in split place_from
+same-requires-5 c = search rules
+
+pub returns-then-same-5 : goal.returns-then-same-5
+unfolding words_in split place_from
+returns-then-same-5 c = placed-from _ _ (search places depth 24)
+
+pub trigger_place_from_five-requires : goal.trigger_place_from_five-requires
+unfolding words_in split place_from
+trigger_place_from_five-requires c = search rules
+
+pub returns : goal.returns
+unfolding words_in split place_from
+returns c = placed-from _ _ (search places depth 24)
