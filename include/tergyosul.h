@@ -1,8 +1,8 @@
 /*
  * Tergyosul: the rule reader of the lighting controllers, for C.
  *
- * Link target/staticlib/libtergyosul.a, which `rt staticlib tergyosul` makes. Nothing is allocated and nothing is kept
- * between calls, so that calls on different arrays may run at the same time.
+ * Link target/staticlib/libtergyosul.a, which `tools/staticlib` makes. Nothing is allocated and nothing is kept between
+ * calls, so that calls on different arrays may run at the same time.
  *
  * A slice is passed as a pointer and a length. What the proofs cannot see is the caller's part: each pointer is not null
  * and points to as many elements as the length says (a length of 0 still wants a pointer that is not null: where there

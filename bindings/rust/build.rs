@@ -1,4 +1,4 @@
-//! Links the proved library, which `rt staticlib tergyosul` makes at the root of the repository. TERGYOSUL_LIB_DIR names
+//! Links the proved library, which `tools/staticlib` makes at the root of the repository. TERGYOSUL_LIB_DIR names
 //! another folder that has it.
 
 use std::env;
@@ -19,7 +19,7 @@ fn main() {
     println!("cargo::rerun-if-changed={}", archive.display());
     if !archive.is_file() {
         let path = archive.display();
-        println!("cargo::error={path} is missing: run `rt staticlib tergyosul` at the root, or set {FOLDER} to its folder");
+        println!("cargo::error={path} is missing: run `tools/staticlib` at the root, or set {FOLDER} to its folder");
         return;
     }
     println!("cargo::rustc-link-search=native={}", folder.display());

@@ -1,4 +1,4 @@
-//! Links the proved library, which `rt staticlib tergyosul` makes.
+//! Links the proved library, which `tools/staticlib` makes.
 
 use std::path::PathBuf;
 
@@ -9,7 +9,7 @@ fn main() {
     let archive = folder.join("libtergyosul.a");
     println!("cargo::rerun-if-changed={}", archive.display());
     if !archive.is_file() {
-        println!("cargo::error=target/staticlib/libtergyosul.a is missing: run `rt staticlib tergyosul` at the root");
+        println!("cargo::error=target/staticlib/libtergyosul.a is missing: run `tools/staticlib` at the root");
         return;
     }
     println!("cargo::rustc-link-search=native={}", folder.display());

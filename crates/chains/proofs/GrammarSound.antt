@@ -124,6 +124,7 @@ end_rest {v} {i} g = by (next_of g)
     by : Next v i End → Rest v i
     by (over e m) = at_end_rule e
     by (piece q a (inl (e, h))) = and_more (known e a) h
+    by (piece q a (inr x)) = elim x [ ]
 
 module _ (v : List ℕ) where
   -- 0, 63 or 64
@@ -136,6 +137,7 @@ module _ (v : List ℕ) where
       by (piece q a (inl (e, h))) = (kind_of_lem ZERO refl refl (known e a), end_rest h)
       by (piece q a (inr (inl (e, h)))) = (kind_of_lem SIXTY_THREE refl refl (known e a), end_rest h)
       by (piece q a (inr (inr (inl (e, h))))) = (kind_of_lem SIXTY_FOUR refl refl (known e a), end_rest h)
+      by (piece q a (inr (inr (inr x)))) = elim x [ ]
 
   -- one of two words
   either-of : {A : Type 0} {x y : A} {first second : List ℕ} {i : ℕ} (k l : ℕ) → ltb k piece_count ≡ true → (get_or piece_tokens k no_token).kind ≡ WORD →
@@ -192,6 +194,7 @@ module _ (v : List ℕ) where
             let n = integer h in read_value_rule (reading_with x (plus (kind_of_lem PLUS refl refl (known e a)) n.0)) (omega arith) n.1
         by x long (piece q a (inr (inr (inl (e, h))))) =
             let n = integer h in read_value_rule (reading_with x (minus (kind_of_lem MINUS refl refl (known e a)) n.0)) (omega arith) n.1
+        by x long (piece q a (inr (inr (inr y)))) = elim y [ ]
 
     value_of : {i : ℕ} → Good v i Place.Compared → ReadValue i
     unfolding may_end
@@ -207,6 +210,7 @@ module _ (v : List ℕ) where
             let n = integer h in read_value_rule (signed_number (plus (kind_of_lem PLUS refl refl (known e a)) n.0)) (omega arith) n.1
         by (piece q a (inr (inr (inr (inr (inr (inl (e, h)))))))) =
             let n = integer h in read_value_rule (signed_number (minus (kind_of_lem MINUS refl refl (known e a)) n.0)) (omega arith) n.1
+        by (piece q a (inr (inr (inr (inr (inr (inr x))))))) = elim x [ ]
 
     -- a condition has three tokens at least
     data ReadOne (i : ℕ) : Type 0 where
@@ -255,6 +259,7 @@ module _ (v : List ℕ) where
             let equal = one_of EQUAL refl refl level.1 in
             compared_of w h (kind_of_lem POINT refl refl (known e a)) (word_of LEVEL refl refl refl level.0) (kind_of_lem EQUAL refl refl equal.0)
             (omega arith) (value_of equal.1)
+        by w h long (piece q a (inr (inr x))) = elim x [ ]
 
     one_condition : {i : ℕ} → Good v i Start → ReadOne i
     unfolding may_end
@@ -265,6 +270,7 @@ module _ (v : List ℕ) where
         by (piece q a (inl (e, h))) = lamp_is_of (known e a) h
         by (piece q a (inr (inl (e, h)))) = sun_of_rule (known e a) h
         by (piece q a (inr (inr (inl (e, h))))) = time_of (known e a) h
+        by (piece q a (inr (inr (inr x)))) = elim x [ ]
 
     -- and those behind it; each has three tokens and one before it
     record ReadMore (i : ℕ) : Type 0 where

@@ -104,6 +104,7 @@ nothing-earlier (same h) e = omega arith
 
 pub fill-first : (s : Place) (z : List ℕ) → length z ≤ most_pieces → Ends s z → Earlier z (fill s (length z)) → ⊥
 unfolding fill reached
+fill-first s [] few h e = elim e [ ]
 fill-first s (y ∷ z) few h e =
     let n = length z in
     ⊎_elim

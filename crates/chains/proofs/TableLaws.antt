@@ -89,6 +89,7 @@ module _ (P : Place → Type 0) (nowhere : P Nowhere → ⊥) where
   among (m ∷ ms) q h = among-by m ms q (eqb q m.piece) refl (among ms q) h
 
   by-piece : (ms : List Move) (q : ℕ) → by-pieces ms ≡ true → Among ms q → q < piece_count
+  by-piece [] q e h = elim h [ ]
   by-piece (m ∷ ms) q e (inl h) = rw h.0 (ltb-true m.piece piece_count (both (ltb m.piece piece_count) e).0)
   by-piece (m ∷ ms) q e (inr h) = by-piece ms q (both (ltb m.piece piece_count) e).1 h
 

@@ -82,6 +82,7 @@ either_way a b = before-by (numbers (length a) (length b)) (as_long-way a b)
 
 -- what is yielded comes behind the start, in order, and is of the list
 behind : {v u : List ℕ} {ws : List (List ℕ)} → Yields v ws → Member u ws → Before v u
+behind (stops a) m = elim m [ ]
 behind (goes_on a some y) here = (follows_by a refl some).later
 behind (goes_on a some y) (there m) = before-trans (follows_by a refl some).later (behind y m)
 
@@ -90,6 +91,7 @@ in_order (stops a) = Ascending.none
 in_order (goes_on a some y) = Ascending.first (λ u m. behind y m) (in_order y)
 
 yielded_listed : {v u : List ℕ} {ws : List (List ℕ)} → Yields v ws → Member u ws → Listed u
+yielded_listed (stops a) m = elim m [ ]
 yielded_listed (goes_on a some y) here = (follows_by a refl some).listed
 yielded_listed (goes_on a some y) (there m) = yielded_listed y m
 

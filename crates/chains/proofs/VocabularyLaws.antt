@@ -79,6 +79,7 @@ unfolding piece_token tokens bytes_of kind_at number_at bytes_at start_at length
 given = (refl, (refl, (refl, (refl, (refl, (refl, (refl, (refl, (refl, (refl, (refl, (refl, (refl, (refl, (refl, (refl, (refl, (refl, (refl, (refl, (refl, (refl, (refl, tt)))))))))))))))))))))))
 
 given-at : (ts : List Tok) (q k : ℕ) → Given ts q → k < length ts → piece_token (q + k) ≡ get_or ts k no_token
+given-at [] q k g h = elim h [ ]
 given-at (t ∷ ts) q zero g h = rw add-zero g.0
 given-at (t ∷ ts) q (suc k) g h = let e : q + suc k ≡ suc q + k = omega arith in rw e (given-at ts (suc q) k g.1 (omega arith))
 

@@ -1,14 +1,13 @@
 -- The name for a reference, line by line, and the rows of a list one behind the other.
-use Prim.Native.Nat.{ℕ, zero, suc, ◌+◌, ◌-◌, ◌*◌, ◌<◌, ◌≤◌}
+use Prim.Native.Nat.{ℕ, ◌+◌, ◌*◌, ◌<◌, ◌≤◌}
 use native.Mathlib.Omega.{arith}
-use native.Mathlib.Nat.{add-zero, zero-add}
 use native.Mathlib.Numerals.{add-one}
 use mathlib.Core.Path.{◌≡◌, ◌∙◌, refl, sym, ap, subst}
 use mathlib.Core.Bool.{Bool, true, false, not}
 use mathlib.Core.List.{List, [], ◌∷◌, ◌++◌, append_assoc, append-nil}
-use lib.ListN.{length, drop, take, get_or, length-append, length-take}
+use lib.ListN.{length, drop, take, get_or}
 use lib.Dec.{eqb}
-use lib.Seq.{take-suc, take-length, length-take-le, take-append_seam}
+use lib.Seq.{take-suc, length-take-le, take-append_seam}
 use borrow.Author.Rules.{rules}
 use borrow.Author.Tests.{lt-ltb, le-ltb, lt-leb, le-leb, eq-eqb, ne_eqb}
 use mir.Syntax.{w8, w32}
@@ -17,12 +16,10 @@ use Rattle.text.specs.Choice.{pick}
 use Rattle.text.specs.Part.{part_of}
 use Rattle.text.proofs.SplitLaws.{split-none, part-read}
 use Rattle.sheet.specs.Line.{line_of, name_of}
-use Rattle.sheet.specs.Sheet.{lines, line_end, Entry, entries, entry_by}
+use Rattle.sheet.specs.Sheet.{line_end, entries}
 use Rattle.sheet.specs.Party.{entries_on}
 use Rattle.sheet.specs.View.{View, view_of}
-use Rattle.sheet.specs.Names.{is_for, is_for_line, names_for}
-use Rattle.sheet.specs.declared.line.Line.{Line}
-use Rattle.sheet.specs.declared.line.Line.TheVariants.{Primary, Adapter, Party, Row, Bad}
+use Rattle.sheet.specs.Names.{is_for_line, names_for}
 use Rattle.sheet.specs.Adapters.{has}
 use Rattle.sheet.specs.Survey.{survey_of}
 use Rattle.sheet.specs.declared.Habit.{Habit}
@@ -219,23 +216,11 @@ pub ruleset making = (rules, array_length, index-fits, ordinal-fits, none_made, 
 
 -- the bytes that were made
 module _ {view : View} {xs : List TriggerRow} {r : Rows} {before made : List ℕ} (m : RowsMade view xs r before made) where
-  pub part-long : r.length ≡ length (take r.length made)
+  part-long : r.length ≡ length (take r.length made)
   part-long =
       let short = m.short in
       let long = m.long in
       sym (length-take-le r.length made (omega arith))
-
-  pub copy_fits : (n : ℕ) → least_bytes ≤ n → length (take r.length made) ≤ n
-  copy_fits n h =
-      let short = m.short in
-      let e = part-long in
-      omega arith
-
-  pub length-fits : {n : ℕ} → n ≡ length (take r.length made) → mir.Val.Fits w32 n
-  length-fits h =
-      let short = m.short in
-      let e = part-long in
-      record { fits = omega arith }
 
 -- 62 and the rows
 module _ (view : View) (l : Triggers) (b : List ℕ) {r : Rows} {before made : List ℕ} (m : RowsMade view (take l.count l.rows) r before made) where
@@ -259,15 +244,17 @@ module _ (view : View) (l : Triggers) (b : List ℕ) {r : Rows} {before made : L
     unfolding by_names first_unnamed
     all_named = rw (← m.first, eq-eqb r.unnamed 0 none)
 
-    pub written : {n : ℕ} {after : List ℕ} → n ≡ length (take r.length made) →
-        after ≡ take (length (take r.length made)) (take r.length made) ++ drop (length (take r.length made)) b →
-        (record { number = 0; line = 0; column = 0; detail = 0; length = n } ≡ (by_names view l b).answer) × (after ≡ (by_names view l b).buffer)
+    -- the buffer's first bytes are those that were made
+    pub written : {ys : List ℕ} → ys ≡ take r.length made →
+        (record { number = 0; line = 0; column = 0; detail = 0; length = r.length } ≡ (by_names view l b).answer)
+        × (ys ++ drop r.length b ≡ (by_names view l b).buffer)
     unfolding written_with
-    written e h =
+    written {ys} h =
+        let bytes = rows_for view (take l.count l.rows) in
+        let size : r.length ≡ length bytes = part-long m ∙ ap length rows_are in
         handed_on all_named (
-          ap (λ (k : ℕ). record { number = 0; line = 0; column = 0; detail = 0; length = k }) (e ∙ ap length rows_are),
-          h ∙ ap (λ (xs : List ℕ). take (length xs) xs ++ drop (length xs) b) rows_are
-              ∙ ap (λ (xs : List ℕ). xs ++ drop (length (rows_for view (take l.count l.rows))) b) (take-length (rows_for view (take l.count l.rows))),
+          ap (λ (k : ℕ). record { number = 0; line = 0; column = 0; detail = 0; length = k }) size,
+          ap (λ (xs : List ℕ). xs ++ drop r.length b) (h ∙ rows_are) ∙ ap (λ (k : ℕ). bytes ++ drop k b) size,
         )
 
 -- 54 and 61

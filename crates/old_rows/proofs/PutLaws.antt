@@ -1,7 +1,7 @@
 -- What a row is made of, part by part.
 use Prim.Native.Nat.{ℕ}
-use mathlib.Core.Path.{◌≡◌, refl, sym, ap, ◌∙◌}
-use mathlib.Core.List.{List, [], ◌∷◌, ◌++◌, append_assoc, append-nil}
+use mathlib.Core.Path.{◌≡◌, sym, ap, ◌∙◌}
+use mathlib.Core.List.{List, [], ◌∷◌, append_assoc, append-nil}
 use Rattle.spelling.proofs.PutLaws.{Made, joined}
 use Rattle.writing.specs.Pieces.{decimal}
 use Rattle.old_rows.specs.Back.{kind_word, change_word, row_bytes}

@@ -1,19 +1,18 @@
 -- The rows of an archive from an offset on: which is the first that is malformed, and how many there are.
 use Prim.Native.Nat.{ℕ, ◌+◌, ◌-◌, ◌<◌, ◌≤◌}
 use native.Mathlib.Omega.{arith}
-use native.Mathlib.Nat.{add_assoc}
-use mathlib.Core.Path.{◌≡◌, ◌∙◌, refl, sym, ap}
+use mathlib.Core.Path.{◌≡◌, ◌∙◌, refl, sym}
 use mathlib.Core.Bool.{Bool, true, false, not}
 use mathlib.Core.List.{List, [], ◌∷◌}
 use lib.ListN.{length, drop, get_or, length-drop}
 use lib.Seq.{get_or-drop}
-use lib.Dec.{ltb, eqb}
+use lib.Dec.{ltb}
 use borrow.Author.Rules.{rules}
 use borrow.Author.Tests.{lt-ltb, le-ltb, eq-eqb, ne_eqb, not-true, not-false, ltb-true, ltb-false}
 use Rattle.text.specs.Find.{index_of}
 use Rattle.text.specs.Choice.{pick}
 use Rattle.text.specs.Part.{part_of}
-use Rattle.text.proofs.FindLaws.{index-found, first-is, first-from, first-within, first-same, first-here}
+use Rattle.text.proofs.FindLaws.{index-found, first-is, first-within, first-same, first-here}
 use Rattle.text.proofs.SplitLaws.{split-on, split-none, part-read}
 use Rattle.text.proofs.Tests.{picked}
 use Rattle.sheet.specs.Sheet.{lines, line_end}

@@ -3,7 +3,7 @@ use Prim.Native.Nat.{ℕ, ◌*◌, ◌<◌, ◌≤◌}
 use native.Mathlib.Omega.{arith}
 use mathlib.Core.Path.{◌≡◌, refl, sym, ap, ◌∙◌, subst}
 use mathlib.Core.Bool.{Bool, true, false}
-use mathlib.Core.List.{List}
+use mathlib.Core.List.{List, []}
 use lib.ListN.{length, take}
 use lib.Seq.{length-take-le}
 use lib.Dec.{ltb}
@@ -38,10 +38,12 @@ use Rattle.topics.proofs.RangeLaws.{lent-alone}
 use Rattle.language.specs.Section.{Lists}
 use Rattle.tokens.specs.Ended.{Ended, record_words, token_line, token_column}
 use Rattle.tokens.specs.Placed.{AllInWord}
-use Rattle.model.specs.Lists.{accepted_with, refused_with}
+use Rattle.model.specs.Lists.{triggers_of, conditions_of, accepted_with, refused_with}
 use Rattle.language.specs.Read.{parsed, rule_of, lexed_from, by_primary, by_text, by_sheet, Outcome, read_of}
 use Rattle.language.specs.Demand.{Exact}
 use Rattle.tokens.specs.Buffer.{Holds, front_of}
+use Rattle.model.specs.declared.Triggers.{Triggers}
+use Rattle.model.specs.declared.Conditions.{Conditions}
 use Rattle.model.specs.declared.Answer.{Answer}
 use Rattle.language.proofs.AskedLaws.{lexed-complete}
 use Rattle.language.proofs.Theorem.{few, exact}

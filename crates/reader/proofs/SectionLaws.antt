@@ -1,10 +1,10 @@
 -- The loops of the two sections, and their answers taken apart.
-use Prim.Native.Nat.{ℕ, ◌+◌, ◌<◌, ◌≤◌}
+use Prim.Native.Nat.{ℕ, ◌+◌, ◌-◌, ◌<◌, ◌≤◌}
 use native.Mathlib.Omega.{arith}
 use mathlib.Core.Path.{◌≡◌, refl, sym, ap, ◌∙◌}
 use mathlib.Core.Bool.{Bool, true, false}
 use mathlib.Core.List.{List, [], ◌∷◌, ◌++◌}
-use lib.ListN.{length, set}
+use lib.ListN.{length, length-append, set}
 use Rattle.text.specs.Literal.{ascii}
 use Rattle.text.proofs.Tests.{lt_yes}
 use Rattle.tokens.specs.Result.{Res, ok, no, bind}
@@ -14,7 +14,7 @@ use Rattle.tokens.specs.declared.cursor.Refusal.{Refusal}
 use Rattle.tokens.specs.declared.cursor.Accepted.{Accepted}
 use Rattle.tokens.specs.declared.cursor.Accepted.TheVariants.{Yes, Left}
 use Rattle.sheet.specs.View.{View}
-use Rattle.topics.specs.Topics.{fits}
+use Rattle.topics.specs.Topics.{most_topics, fits}
 use Rattle.topics.specs.Ranges.{no_ranges, with_topic, topic_by, name_in, topics_in}
 use Rattle.topics.specs.declared.ranges.Ranges.{Ranges}
 use Rattle.topics.specs.declared.ranges.Topic.{Topic}

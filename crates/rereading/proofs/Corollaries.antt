@@ -91,7 +91,7 @@ if_few (conditions w (joined h r few)) = omega arith
 counts-held : {t : ℕ → Tok} {view : View} {range : ℕ → Name} {l : Lists} {xs : List Trigger} {ys : List Condition} → ReadingWith t view range xs ys →
     Holds l xs ys → possible_counts l ≡ true
 unfolding possible_counts
-counts-held (reading (whens r some few) i e) h = rw (h.count, h.condition_count_lem) (holds (holds (le-leb _ _ some) (le-leb _ _ few)) (le-leb _ _ (if_few i)))
+counts-held (reading (whens r some few) i e) h = rw (h.count, h.condition_count) (holds (holds (le-leb _ _ some) (le-leb _ _ few)) (le-leb _ _ (if_few i)))
 
 module _ {call : Call} (in_range : call.primary ≤ last_adapter) {text sheet : List ℕ} {lent : List (List ℕ)} {size : ℕ} {xs : List Trigger} {ys : List Condition}
     (r : HasReading call text sheet lent size xs ys) (second : List ℕ) {l : Lists} (h : Holds l xs ys) where
@@ -158,7 +158,7 @@ read-write-read call habit text second sheet lent size xs ys l buffer words any 
       conditions = back.conditions;
       answer = back.answer;
       same_triggers = back.same_triggers ∙ held text second h;
-      same_conditions_lem = back.same_conditions_lem ∙ held-conditions text second h;
+      same_conditions = back.same_conditions ∙ held-conditions text second h;
     })
 
 -- ---- lists that are the same by bytes
@@ -195,7 +195,7 @@ rewritten call first second third sheet lent words l m buffer other in_range e r
     let (w, least) = writes_only call.party call.primary first second sheet l buffer e in
     let s : SameLists text third m first second l = record {
       triggers = held text third h ∙ r.same_triggers;
-      conditions = held-conditions text third h ∙ r.same_conditions_lem;
+      conditions = held-conditions text third h ∙ r.same_conditions;
     } in
     let v : Writes call.party call.primary text third sheet m = record {
       sheet_passes = w.sheet_passes;

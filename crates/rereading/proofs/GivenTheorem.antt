@@ -109,7 +109,7 @@ module _ (text : List ℕ) (y : Condition) (p : possible_condition text y ≡ tr
       let w = condition-writes named.primary named.reached in
       let r = written-reads call refl text [] every_adapter (condition_only y) (record { triggers = refl; conditions = refl }) w [] least_words (omega arith)
       (one-allowed (name_in text) (topic_name Trigger.HttpTrigger)) in
-      let (v, among, same) = first-shown _ r.conditions r.same_conditions_lem in
+      let (v, among, same) = first-shown _ r.conditions r.same_conditions in
       record {
         call = call;
         in_range = named.in_range;
@@ -129,7 +129,7 @@ pub exactly_possible : ExactlyPossible
 exactly_possible =
     record {
       trigger = λ text x p. (trigger-inside text x p, trigger-given text x p);
-      trigger_back_lem = given-possible;
+      trigger_back = given-possible;
       condition = λ text y p. (condition-inside text y p, condition-given text y p);
-      condition_back_lem = given-possible_condition;
+      condition_back = given-possible_condition;
     }

@@ -1,5 +1,4 @@
 -- Document 02, §6: what is written depends on nothing that is another party's (specs/Rereading.antt).
-use mathlib.Core.Path.{◌≡◌}
 use Rattle.sheet.proofs.PartyLaws.{agree-seen, agree-primary}
 use Rattle.language.specs.Read.{rule_call}
 use Rattle.writing.specs.Writing.{write_of}

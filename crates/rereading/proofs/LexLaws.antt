@@ -199,9 +199,11 @@ module _ {text : List ℕ} (short : length text ≤ most_bytes) where
   unfolding joined characters_of
   found g o Each.none e =
       record { lexing = _; lexes = Lexes.end {gap = []} (Trailing.trivia Trivia.none); finished = Ended.at_end_rule; recorded = none }
-  found {front} {gap} g o (Each.more {x = p} {xs = ps} h hs) e =
+  found {front = front} {done = done} {gap = gap} g o (Each.more {x = p} {xs = ps} h hs) e =
       let on : front ++ (gap ++ (spelled p ++ joined (0x20 ∷ []) ps)) ≡ (front ++ (gap ++ spelled p)) ++ joined (0x20 ∷ []) ps = simp append_assoc in
-      found-more (joined (0x20 ∷ []) ps) g o h e (apart hs) (found space (octets-on o (octets-on (gap-octets g) (piece_token_lem h).octets)) hs (e ∙ on))
+      found-more (joined (0x20 ∷ []) ps) g o h e (apart hs)
+      (found {front = front ++ (gap ++ spelled p)} {done = done ++ (gap ++ (piece_token_lem h).characters)} {gap = 0x20 ∷ []} space
+      (octets-on o (octets-on (gap-octets g) (piece_token_lem h).octets)) hs (e ∙ on))
 
 -- what lexing the text of good pieces gives
 pub record Lexed (ps : List Piece) : Type 0 where

@@ -79,13 +79,14 @@ module _ {t : ℕ → Tok} {view : View} where
   items_in (ArgList.one h) = Each.more (arg_in h) Each.none
   items_in (ArgList.more h c g) = Each.more (arg_in h) (items_in g)
 
-last_in : {view : View} {k : ℕ} {xs : List Item} {x : Item} → Each (ItemReached view) xs → Last k xs x → ItemReached view x
-last_in (Each.more p e) (Last.last q w) = p
-last_in (Each.more p e) (Last.later l) = last_in e l
+last_in : (view : View) {k : ℕ} {xs : List Item} {x : Item} → Each (ItemReached view) xs → Last k xs x → ItemReached view x
+last_in view Each.none l = elim l [ ]
+last_in view (Each.more p e) (Last.last q w) = p
+last_in view (Each.more p e) (Last.later l) = last_in view e l
 
-scoped_in : {view : View} {xs : List Item} {scope : Scope} → Each (ItemReached view) xs → Scoped xs scope → ScopeReached view scope
-scoped_in e (Scoped.nowhere w) = tt
-scoped_in e (Scoped.somewhere l) = last_in e l
+scoped_in : (view : View) {xs : List Item} {scope : Scope} → Each (ItemReached view) xs → Scoped xs scope → ScopeReached view scope
+scoped_in view e (Scoped.nowhere w) = tt
+scoped_in view e (Scoped.somewhere l) = last_in view e l
 
 on_adapter_in : {view : View} {scope : Scope} {a : ℕ} → ScopeReached view scope → OnAdapter view scope a → is_reached view a ≡ true
 on_adapter_in {view} s OnAdapter.primary = primary-reached view
@@ -94,6 +95,7 @@ on_adapter_in s OnAdapter.given = s
 -- the row that a name picks is one of the rows
 picked_in : {P : Entry → Type 0} {kind : ℕ} {name : List ℕ} {scope : Scope} {es : List Entry} {e : Entry} → Each P es →
     Picks kind name scope es e → P e
+picked_in Each.none p = elim p [ ]
 picked_in (Each.more h hs) (Picks.past x p) = picked_in hs p
 picked_in (Each.more h hs) (Picks.here s w) = h
 
@@ -124,8 +126,8 @@ module _ {t : ℕ → Tok} {view : View} (rows : RowsReached view) where
 
   selects_in : {xs : List Item} {s : Selector} → Each (ItemReached view) xs → Selects t view xs s → reached_selector view s ≡ true
   unfolding reached_selector
-  selects_in e (Selects.instance w d n s h) = refers_in (scoped_in e s) h
-  selects_in e (Selects.instances g w v s a k) = on_adapter_in (scoped_in e s) a
+  selects_in e (Selects.instance w d n s h) = refers_in (scoped_in view e s) h
+  selects_in e (Selects.instances g w v s a k) = on_adapter_in (scoped_in view e s) a
 
   args_in : {i j : ℕ} {s : Selector} → ArgsOf t view i s j → reached_selector view s ≡ true
   args_in (ArgsOf.args a h p b g) = selects_in (items_in h) g

@@ -96,7 +96,7 @@ pub record HasLists (call : Call) (text sheet : List ℕ) (lent : List (List ℕ
   pub conditions : List Condition
   pub reads : HasReading call text sheet lent size triggers conditions
   pub same_triggers : map (shown_trigger text) triggers ≡ map (trigger_from first second) (triggers_in l)
-  pub same_conditions_lem : map (shown_condition text) conditions ≡ map (condition_from first second) (conditions_in l)
+  pub same_conditions : map (shown_condition text) conditions ≡ map (condition_from first second) (conditions_in l)
 
 module _ (call : Call) (any : any_form call.habit ≡ true) (first second sheet : List ℕ) (l : Lists) (rows : FourRows l)
     (w : Writes call.party call.primary first second sheet l) where
@@ -129,7 +129,7 @@ module _ (call : Call) (any : any_form call.habit ≡ true) (first second sheet 
               topics = rw (same-topics (spaced ps) first second r.triggers (triggers_in l) r.same_triggers) allowed;
             };
         same_triggers = r.same_triggers;
-        same_conditions_lem = r.same_conditions_lem;
+        same_conditions = r.same_conditions;
       }
 
 -- and so it is answered with them
@@ -142,7 +142,7 @@ answered {call} in_range {text} {sheet} {lent = lent} words h =
       answer = (exact call in_range text sheet lent words).complete _ _ h.reads;
       reads = h.reads;
       same_triggers = h.same_triggers;
-      same_conditions_lem = h.same_conditions_lem;
+      same_conditions = h.same_conditions;
     }
 
 -- ---- whole calls

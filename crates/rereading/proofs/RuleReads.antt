@@ -77,7 +77,7 @@ pub record RuleRead (t : ℕ → Tok) (view : View) (range : ℕ → Name) (writ
   pub conditions : List Condition
   pub reads : ReadingWith t view range triggers conditions
   pub same_triggers : map (shown_trigger written) triggers ≡ map (trigger_from first second) (triggers_in l)
-  pub same_conditions_lem : map (shown_condition written) conditions ≡ map (condition_from first second) (conditions_in l)
+  pub same_conditions : map (shown_condition written) conditions ≡ map (condition_from first second) (conditions_in l)
 
 -- rows in use, as many as are counted
 counted : {A : Type 0} (n : ℕ) (rows : List A) → n ≤ 4 → length rows ≡ 4 → length (take n rows) ≡ n
@@ -137,5 +137,5 @@ module _ (t : ℕ → Tok) (view : View) (range : ℕ → Name) (written : List 
         conditions = ys.values;
         reads = reading (whens xs.reads (omega arith) (omega arith)) ys.reads end;
         same_triggers = xs.same;
-        same_conditions_lem = ys.same;
+        same_conditions = ys.same;
       }

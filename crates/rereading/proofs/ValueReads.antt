@@ -23,7 +23,7 @@ use Rattle.model.specs.declared.Value.{Value}
 use Rattle.language.specs.Same.{no_name, reading_parts, value_parts, operand_parts}
 use Rattle.language.specs.grammar.Words.{Signed, plus, minus}
 use Rattle.language.specs.grammar.Expr.{LampPropertyOf, level, cct, is_on_rule, last_level_rule, GroupProperty, any_on, all_off, member_count, InputProperty, occupied, light, position, last_event_age, TimeProperty, now, hour, minute, weekday, SunProperty, rise, set, is_up, EventProperty, event_value, event_device, event_instance, event_option, ReadingOf, of_lamp, of_group, of_input, of_time, of_sun, of_event, of_var, ValueOf, number, signed_number, reading, reading_with}
-use Rattle.language.specs.grammar.Condition.{OperandOf, text, value}
+use Rattle.language.specs.grammar.Condition.{OperandOf, value}
 use Rattle.language.proofs.ReflowLaws.{shown_reading, shown_value, shown_operand, one_name, reads-shown, number-shown}
 use Rattle.writing.specs.Pieces.{Piece}
 use Rattle.writing.specs.Write.{ref_pieces, instance_pieces, input_pieces, lamp_reading_word, group_reading_word, input_reading_word, time_reading_word, sun_reading_word, event_reading_word, literal_pieces, delta_pieces, reading_pieces, value_pieces, operand_pieces}

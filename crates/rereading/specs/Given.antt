@@ -55,6 +55,6 @@ pub record ConditionGiven (text : List ℕ) (y : Condition) : Type 0 where
 -- the test says yes exactly of such entries
 pub record ExactlyPossible : Type 0 where
   pub trigger : (text : List ℕ) (x : Trigger) → possible_trigger text x ≡ true → Each (Inside text) (trigger_parts x).names × TriggerGiven text x
-  pub trigger_back_lem : (text : List ℕ) (x : Trigger) → Each (Inside text) (trigger_parts x).names → TriggerGiven text x → possible_trigger text x ≡ true
+  pub trigger_back : (text : List ℕ) (x : Trigger) → Each (Inside text) (trigger_parts x).names → TriggerGiven text x → possible_trigger text x ≡ true
   pub condition : (text : List ℕ) (y : Condition) → possible_condition text y ≡ true → Each (Inside text) (condition_parts y).names × ConditionGiven text y
-  pub condition_back_lem : (text : List ℕ) (y : Condition) → Each (Inside text) (condition_parts y).names → ConditionGiven text y → possible_condition text y ≡ true
+  pub condition_back : (text : List ℕ) (y : Condition) → Each (Inside text) (condition_parts y).names → ConditionGiven text y → possible_condition text y ≡ true

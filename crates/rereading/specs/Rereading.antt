@@ -55,7 +55,7 @@ pub record ReadsBack (call : Call) (text sheet : List ℕ) (lent : List (List �
   pub answer : (read_of call text sheet lent words).answer ≡ accepted_with triggers conditions
   pub reads : HasReading call text sheet lent (length words) triggers conditions
   pub same_triggers : map (shown_trigger text) triggers ≡ map (trigger_from first second) (triggers_in l)
-  pub same_conditions_lem : map (shown_condition text) conditions ≡ map (condition_from first second) (conditions_in l)
+  pub same_conditions : map (shown_condition text) conditions ≡ map (condition_from first second) (conditions_in l)
 
 -- the call reads the lists back, or a topic of theirs is one too many beside those that are lent, and it refuses the text with 66. There is no third answer
 pub data Reread (call : Call) (text sheet : List ℕ) (lent : List (List ℕ)) (words first second : List ℕ) (l : Lists) : Type 0 where
@@ -78,7 +78,7 @@ WritingReadsBack =
 pub record Holds (l : Lists) (xs : List Trigger) (ys : List Condition) : Type 0 where
   pub count : l.triggers.count ≡ length xs
   pub triggers : triggers_in l ≡ map (λ (x : Trigger). record { from = 1; trigger = x }) xs
-  pub condition_count_lem : l.conditions.count ≡ length ys
+  pub condition_count : l.conditions.count ≡ length ys
   pub conditions : conditions_in l ≡ map (λ (y : Condition). record { from = 1; condition = y }) ys
 
 -- the rows with names that are seen are on the primary or on adapters that are listed. Where a row is not, its name may be read, but no id can be written for it (56)
@@ -101,7 +101,7 @@ pub record ReadsSame (call : Call) (text sheet : List ℕ) (lent : List (List �
   pub conditions : List Condition
   pub answer : (read_of call text sheet lent words).answer ≡ accepted_with triggers conditions
   pub same_triggers : SameTriggers text other triggers xs
-  pub same_conditions_lem : SameConditions text other conditions ys
+  pub same_conditions : SameConditions text other conditions ys
 
 -- what was read, whichever habit read it, then written and read again with the same topics lent, is the same, names by bytes
 abbrev pub ReadWriteRead : Type 0

@@ -7,7 +7,7 @@ use Rattle.text.specs.Choice.{pick}
 use Rattle.tokens.specs.Result.{Res, ok, no, bind, refuse}
 use Rattle.tokens.specs.Kind.{CLOSE, COMMA}
 use Rattle.tokens.specs.Cursor.{Tok}
-use Rattle.tokens.specs.Grammar.{token, up_to}
+use Rattle.tokens.specs.Grammar.{up_to}
 use Rattle.tokens.proofs.Okay.{token-kind, not-kind, kind-yes, kind-no, kind-complete, word-complete, up_to-complete}
 use Rattle.model.specs.declared.Ref.{Ref}
 use Rattle.sheet.specs.Line.{is_name}

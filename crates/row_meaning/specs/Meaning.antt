@@ -1,13 +1,13 @@
 -- What the archive's rows mean (document 02, §10), in words other than those of the calls (old_rows/specs/Convert.antt, Back.antt): a row says what a rule text says;
 -- the row that is made for a reference is told by the sheet's rows; rows that are made convert to the same list; and another party's rows have no part in it.
-use Rattle.std.specs.Prelude.{ℕ, ◌≤◌, ◌≡◌, Bool, true, false, List, [], ◌∷◌, ◌++◌, map, length}
+use Rattle.std.specs.Prelude.{ℕ, ◌≤◌, ◌≡◌, true, false, List, [], ◌∷◌, ◌++◌, map, length}
 use Rattle.text.specs.Literal.{ascii}
 use Rattle.tokens.specs.Kind.{OPEN, CLOSE, COMMA, ASSIGN}
 use Rattle.tokens.specs.Lexing.{least_words}
 use Rattle.sheet.specs.Line.{has_comma}
 use Rattle.sheet.specs.Sheet.{Entry, well_formed, sheet_check}
 use Rattle.sheet.specs.Party.{Agree}
-use Rattle.sheet.specs.View.{View, seen, own_primary}
+use Rattle.sheet.specs.View.{View, own_primary}
 use Rattle.sheet.specs.Picks.{Picks}
 use Rattle.sheet.specs.declared.Call.{Call}
 use Rattle.sheet.specs.declared.names.Numbered.{Numbered}
@@ -18,7 +18,6 @@ use Rattle.model.specs.declared.Aggregate.TheVariants.{AnyOn, AllOff}
 use Rattle.model.specs.declared.Answer.{Answer}
 use Rattle.model.specs.declared.Online.TheVariants.{GoesOffline, ComesOnline}
 use Rattle.model.specs.declared.Power.TheVariants.{On, Off}
-use Rattle.model.specs.declared.Trigger.{Trigger}
 use Rattle.model.specs.declared.TriggerRow.{TriggerRow}
 use Rattle.model.specs.declared.Triggers.{Triggers}
 use Rattle.language.specs.Read.{read_of}

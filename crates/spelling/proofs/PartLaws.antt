@@ -14,7 +14,7 @@ use Rattle.model.specs.declared.Ref.{Ref}
 use Rattle.model.specs.declared.Selector.{Selector}
 use Rattle.model.specs.declared.SolarEvent.{SolarEvent}
 use Rattle.model.specs.declared.TimeBound.{TimeBound}
-use Rattle.writing.specs.Pieces.{Piece, spelled, spelled_sign, words, further}
+use Rattle.writing.specs.Pieces.{Piece, spelled, spelled_sign, further}
 use Rattle.writing.specs.Write.{offset_pieces, adapter_pieces, ref_pieces, device_pieces, instance_pieces, input_pieces, type_pieces, selector_pieces, name_pieces, bound_pieces, solar_word}
 use Rattle.writing.proofs.FurtherLaws.{further-append}
 use Rattle.spelling.proofs.PutLaws.{Made, joined}

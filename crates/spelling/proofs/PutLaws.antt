@@ -1,13 +1,13 @@
 -- What is written from an offset on, part by part: of bytes that are parts one behind the other, there is room for each where there is room for all, and
 -- all are written when each is.
-use Prim.Native.Nat.{ℕ, zero, suc, ◌+◌, ◌-◌, ◌≤◌, ◌<◌}
+use Prim.Native.Nat.{ℕ, suc, ◌+◌, ◌-◌, ◌≤◌}
 use mathlib.Core.Path.{◌≡◌, refl, sym, ap, ◌∙◌, subst}
 use mathlib.Core.List.{List, [], ◌∷◌, ◌++◌, append_assoc, append-nil}
 use native.Mathlib.Omega.{arith}
 use native.Mathlib.Nat.{add-suc, suc-add, zero-add, add-zero, add_assoc}
-use lib.ListN.{length, take, drop, get_or, set, length-append, length-drop}
-use lib.Seq.{sets, length-sets, sets-eq, take-length, drop-length, drop-drop}
-use Rattle.writing.specs.Pieces.{Piece, spelled, spaced, further}
+use lib.ListN.{length, take, drop, set, length-append}
+use borrow.Rule.Slice.PartMut.{put_mid}
+use lib.Seq.{sets, length-sets, sets-eq, drop-drop}
 use Rattle.spelling.specs.Put.{Put, Fits}
 
 -- stores behind stores
@@ -17,32 +17,22 @@ sets-append l i (x ∷ xs) ys =
     ap (λ (k : ℕ). sets (sets (set l i x) (suc i) xs) k ys) (add-suc i (length xs) ∙ sym (suc-add i (length xs)))
     ∙ sets-append (set l i x) (suc i) xs ys
 
--- a copy into what lies behind an offset
-pub copied : {l new behind after : List ℕ} {at count to : ℕ} → Fits l at new → behind ≡ take (length l - at) (drop at l) → count ≡ length new →
-    after ≡ take (length new) new ++ drop (length new) behind → to ≡ at + count →
-    Put l at new (take at l ++ (after ++ drop (length l - at) (drop at l))) to
-copied {l} {new} {behind} {after} {at} f eb ec ea et =
+-- bytes stored between an offset and the end of what is written
+pub stored_between : {l new ys : List ℕ} {at : ℕ} → Fits l at new → ys ≡ new →
+    Put l at new (put_mid at (at + length new - at) l ys) (at + length new)
+stored_between {l} {new} {ys} {at} f e =
     record {
       stored =
-          ap (λ (xs : List ℕ). take at l ++ (xs ++ drop (length l - at) (drop at l))) ea
-          ∙ ap (λ (xs : List ℕ). take at l ++ (take (length new) new ++ drop (length new) xs ++ drop (length l - at) (drop at l))) (eb ∙ all)
-          ∙ ap (λ (xs : List ℕ). take at l ++ (take (length new) new ++ drop (length new) (drop at l) ++ xs)) none
-          ∙ ap (λ (xs : List ℕ). take at l ++ xs) (append-nil (take (length new) new ++ drop (length new) (drop at l)))
-          ∙ ap (λ (xs : List ℕ). take at l ++ (xs ++ drop (length new) (drop at l))) (take-length new)
+          ap (λ (xs : List ℕ). take at l ++ (xs ++ drop (at + length new - at) (drop at l))) e
+          ∙ ap (λ (k : ℕ). take at l ++ (new ++ drop k (drop at l))) count
           ∙ ap (λ (xs : List ℕ). take at l ++ (new ++ xs)) (drop-drop (length new) at l)
           ∙ sym (append_assoc (take at l) new (drop (at + length new) l))
           ∙ sym (sets-eq new l at f.room);
-      place = et ∙ ap (λ (n : ℕ). at + n) ec;
+      place = refl;
     }
   where
-    long : length (drop at l) ≡ length l - at
-    long = length-drop at l
-
-    all : take (length l - at) (drop at l) ≡ drop at l
-    all = ap (λ (n : ℕ). take n (drop at l)) (sym long) ∙ take-length (drop at l)
-
-    none : drop (length l - at) (drop at l) ≡ []
-    none = ap (λ (n : ℕ). drop n (drop at l)) (sym long) ∙ drop-length (drop at l)
+    count : at + length new - at ≡ length new
+    count = omega arith
 
 -- bytes that are these parts, one behind the other
 unfoldable pub joined : List (List ℕ) → List ℕ

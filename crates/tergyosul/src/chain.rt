@@ -33,8 +33,7 @@ fn put_chain(answer: &mut [u32], c: Chain)
 
 // The next chain behind `pieces`, the first behind none; no pieces if none follows, and 67 for a start that is not in the list. The result is 0, or 67. If answer is
 // shorter than CHAIN_WORDS, nothing is written, and the result is NO_ROOM.
-#[unsafe(no_mangle)]
-pub extern "C" fn tergyosul_next_chain(pieces: &[u8], answer: &mut [u32]) -> u32
+pub fn tergyosul_next_chain(pieces: &[u8], answer: &mut [u32]) -> u32
     ensures number { result ≡ by_room chain_answer_words answer.old no_room (next_of pieces.now).number }
     ensures answer { answer.new ≡ chain_flat (next_of pieces.now) answer.old }
 {

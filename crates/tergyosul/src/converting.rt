@@ -12,14 +12,7 @@ use writing::Written;
 // Converts one to four rows to triggers with a name sheet, for a party, with its own primary adapter. The result is 0, or the number of the
 // refusal; answer gets the whole answer, laid out as one of `tergyosul_read`. If it has no room for that, nothing is converted or written, and the
 // result is NO_ROOM.
-#[unsafe(no_mangle)]
-pub extern "C" fn tergyosul_rows(
-    rows: &[u8],
-    sheet: &[u8],
-    party: u8,
-    primary: u8,
-    answer: &mut [u32],
-) -> u32
+pub fn tergyosul_rows(rows: &[u8], sheet: &[u8], party: u8, primary: u8, answer: &mut [u32]) -> u32
     ensures number { result ≡ by_room answer_words answer.old no_room (rows_of party primary rows.now sheet.now).number }
     ensures answer { answer.new ≡ flat answer.old (rows_of party primary rows.now sheet.now) }
 {
@@ -44,8 +37,7 @@ fn back(sheet: &[u8], party: u8, primary: u8, lists: &[u32], out: &mut [u8]) -> 
 // Converts a list without conditions, whose words are laid out as an answer of `tergyosul_read`, `tergyosul_join` or `tergyosul_rows`, back to rows
 // in out, for a party, with its own primary adapter. The result is 0, or the number of the refusal; answer gets it with its place and its
 // detail, and how many bytes are written. If answer is shorter than WRITE_WORDS, nothing is written, and the result is NO_ROOM.
-#[unsafe(no_mangle)]
-pub extern "C" fn tergyosul_rows_back(
+pub fn tergyosul_rows_back(
     sheet: &[u8],
     party: u8,
     primary: u8,

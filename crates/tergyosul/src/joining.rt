@@ -40,8 +40,7 @@ fn put_joined(answer: &mut [u32], j: Joined)
 // Reads two rule texts with one name sheet and the lent topics of earlier rules, for a party, with its own primary adapter, and joins them. The result is 0, or the number of the refusal; answer gets the
 // whole answer, with the text that is refused and the text of each entry in row 0. If it has no room for that, nothing is read or written, and the result is NO_ROOM. The words are lent for the records of the first text's tokens, the others for those of the second's: at least
 // 5,120 each.
-#[unsafe(no_mangle)]
-pub extern "C" fn tergyosul_join(
+pub fn tergyosul_join(
     first: &[u8],
     second: &[u8],
     sheet: &[u8],

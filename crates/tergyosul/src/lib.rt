@@ -1,4 +1,4 @@
-// The library for C and Rust: numbers and slices only. A slice is passed as a pointer and a length.
+// The calls that C and Rust are given: numbers and slices only. The crate `tergyosul_c` exports each under its own name; a slice is a pointer and a length there.
 #![tactic(auto)]
 
 pub mod chain;
@@ -42,8 +42,7 @@ fn put_four(words: &mut [u32], a: u32, b: u32, c: u32, d: u32)
 // Lexes a text: questions 1, 2 and 4, then 10 to 19. The records of its tokens go to words. The result is 0, or the number of the
 // refusal; answer gets number, line, column and the count of the tokens. If answer has fewer than these four words, nothing is lexed or
 // written, and the result is NO_ROOM.
-#[unsafe(no_mangle)]
-pub extern "C" fn tergyosul_lex(text: &[u8], words: &mut [u32], answer: &mut [u32]) -> u32
+pub fn tergyosul_lex(text: &[u8], words: &mut [u32], answer: &mut [u32]) -> u32
     ensures number { result ≡ by_room lex_answer_words answer.old no_room (lex_number (lex_answer text.now words.old)) }
     ensures words { words.new ≡ by_room lex_answer_words answer.old words.old (lex_words text.now words.old) }
     ensures answer { answer.new ≡ lex_flat (lex_answer text.now words.old) answer.old }
@@ -96,8 +95,7 @@ fn read_by(
 // Reads a rule text with a name sheet and the lent topics of earlier rules, for a party, with its own primary adapter. The result is 0, or the number of the refusal; answer gets the
 // whole answer. If it has no room for that, nothing is read or written, and the result is NO_ROOM. The words are lent for the records of the
 // tokens: at least 5,120. A repeated argument of `input(` is refused.
-#[unsafe(no_mangle)]
-pub extern "C" fn tergyosul_read(
+pub fn tergyosul_read(
     text: &[u8],
     sheet: &[u8],
     lent: &[u8],
@@ -125,8 +123,7 @@ pub extern "C" fn tergyosul_read(
 }
 
 // The archive loader's call: the same, but that a repeated argument of `input(` replaces the earlier one.
-#[unsafe(no_mangle)]
-pub extern "C" fn tergyosul_read_archive(
+pub fn tergyosul_read_archive(
     text: &[u8],
     sheet: &[u8],
     lent: &[u8],
@@ -154,8 +151,7 @@ pub extern "C" fn tergyosul_read_archive(
 }
 
 // The shop's call: what `tergyosul_read` answers, less the forms that the profile leaves out, which are refused with 57, 58 and 59.
-#[unsafe(no_mangle)]
-pub extern "C" fn tergyosul_read_shop(
+pub fn tergyosul_read_shop(
     text: &[u8],
     sheet: &[u8],
     lent: &[u8],
@@ -183,8 +179,7 @@ pub extern "C" fn tergyosul_read_shop(
 }
 
 // The sheet's own primary adapter, which its first line names; 0 where it names none. A call that is to go by it passes it on.
-#[unsafe(no_mangle)]
-pub extern "C" fn tergyosul_sheet_primary(sheet: &[u8]) -> u32
+pub fn tergyosul_sheet_primary(sheet: &[u8]) -> u32
     ensures { result ≡ primary_line (lines sheet.now) }
 {
     sheet::rows::primary(sheet)

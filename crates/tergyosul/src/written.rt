@@ -24,8 +24,7 @@ pub fn put_written(answer: &mut [u32], w: Written)
 // its own primary adapter. The names of each entry stand in the text that row 0 says, the first where it says none. The result is 0, or the
 // number of the refusal; answer gets it with its place and its detail, and how many bytes are written. If answer is shorter than WRITE_WORDS,
 // nothing is written, and the result is NO_ROOM.
-#[unsafe(no_mangle)]
-pub extern "C" fn tergyosul_write(
+pub fn tergyosul_write(
     first: &[u8],
     second: &[u8],
     sheet: &[u8],

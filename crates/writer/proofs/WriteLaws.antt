@@ -1,9 +1,9 @@
 -- The call's questions one after the other are the definition of the whole call.
 use Prim.Native.Nat.{ℕ, ◌<◌, ◌≤◌}
 use native.Mathlib.Omega.{arith}
-use mathlib.Core.Path.{◌≡◌, ap, ◌∙◌}
+use mathlib.Core.Path.{◌≡◌, ap}
 use mathlib.Core.Bool.{Bool, true, false}
-use mathlib.Core.List.{List, []}
+use mathlib.Core.List.{List}
 use lib.ListN.{length}
 use borrow.Author.Tests.{lt-ltb, le-ltb, eq-eqb, ne_eqb}
 use mir.Syntax.{w8, w32}
@@ -18,9 +18,8 @@ use Rattle.sheet.specs.declared.rows.Verdict.{Verdict}
 use Rattle.sheet.proofs.CallLaws.{sheet-bad, sheet-good, own_is, view-is}
 use Rattle.language.specs.Read.{rule_call}
 use Rattle.writing.specs.Pieces.{spaced}
-use Rattle.writing.specs.Writing.{least_bytes, possible_counts, first_impossible, list_pieces, first_unreached, Outcome, refused_at, written_with, by_reached, by_possible, by_room, by_sheet, write_of}
+use Rattle.writing.specs.Writing.{least_bytes, possible_counts, first_impossible, list_pieces, first_unreached, refused_at, written_with, by_reached, by_possible, by_room, by_sheet, write_of}
 use Rattle.writing.specs.declared.Lists.{Lists}
-use Rattle.writing.specs.declared.Written.{Written}
 use Rattle.writing.proofs.LengthLaws.{text-fits}
 use Rattle.writing.proofs.OutcomeLaws.{handed_on}
 use Rattle.spelling.specs.Put.{Put, Fits}

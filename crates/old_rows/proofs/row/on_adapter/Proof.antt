@@ -1,4 +1,3 @@
-use borrow.Author.Rules.{rules}
 use Rattle.text.proofs.Tests.{steps}
 use Rattle.old_rows.specs.Row.{on_adapter}
 use Rattle.old_rows.proofs.row.on_adapter.Statement.{statement}

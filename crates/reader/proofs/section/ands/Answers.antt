@@ -1,3 +1,4 @@
+use Prim.Native.Nat.{◌-◌}
 use Rattle.reader.proofs.SectionLaws.{ands_begin, ands_end, ands_full, ands_stop, ands_put}
 use Rattle.reader.proofs.section.ands.Goals as goal
 

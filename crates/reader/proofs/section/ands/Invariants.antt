@@ -7,8 +7,7 @@ use Rattle.reader.proofs.SectionLaws.{AndLoop}
 use Rattle.reader.proofs.section.ands.Given as goal
 
 abbrev pub invariant-loop-list : goal.invariant-loop-list
-invariant-loop-list l =
-    let t = tokens l.text l.words in
+invariant-loop-list l = let t = tokens l.text l.words in
     let view = view_of l.settings l.s in
     AndLoop t view (range_of l.words) (capacity l.words) l.initial.list l.initial.p.index l.list l.p.index
 

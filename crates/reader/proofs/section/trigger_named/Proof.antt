@@ -1,4 +1,5 @@
 use borrow.Author.Rules.{rules}
+use Rattle.language.specs.Section.{trigger_named}
 use Rattle.reader.proofs.SectionLaws.{named-no, named-yes, named-many}
 use Rattle.reader.proofs.section.trigger_named.Statement.{statement}
 use Rattle.reader.proofs.section.trigger_named.Tie as tie

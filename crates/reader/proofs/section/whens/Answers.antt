@@ -1,3 +1,4 @@
+use Prim.Native.Nat.{◌-◌}
 use Rattle.reader.proofs.SectionLaws.{whens_begin, whens_end, whens_full, whens_stop, whens_put}
 use Rattle.reader.proofs.section.whens.Goals as goal
 

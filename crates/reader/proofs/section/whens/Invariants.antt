@@ -8,8 +8,7 @@ use Rattle.reader.proofs.SectionLaws.{WhensLoop, whole_of}
 use Rattle.reader.proofs.section.whens.Given as goal
 
 abbrev pub invariant-loop-list : goal.invariant-loop-list
-invariant-loop-list l =
-    let t = tokens l.text l.words in
+invariant-loop-list l = let t = tokens l.text l.words in
     let view = view_of l.settings l.s in
     let topics = lent_with l.lent l.first l.earlier in
     WhensLoop l.text t view (range_of l.words) topics (capacity l.words)

@@ -1,0 +1,15 @@
+use Rattle.text.proofs.Tests.{steps}
+use Rattle.old_rows.specs.Row.{lamp_change}
+use Rattle.old_rows.proofs.row.lamp_change.Goals as goal
+
+pub returns-then-same : goal.returns-then-same
+unfolding lamp_change
+returns-then-same c = search steps depth 12
+
+pub returns-then-same-2 : goal.returns-then-same-2
+unfolding lamp_change
+returns-then-same-2 c = search steps depth 12
+
+pub returns : goal.returns
+unfolding lamp_change
+returns c = search steps depth 12

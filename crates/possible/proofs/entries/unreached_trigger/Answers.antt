@@ -1,0 +1,14 @@
+use Rattle.writing.proofs.PassedLaws.{passes}
+use Rattle.possible.proofs.entries.unreached_trigger.Goals as goal
+
+pub loop-i-init : goal.loop-i-init
+loop-i-init c = search passes
+
+pub returns-then-not-reached_trigger : goal.returns-then-not-reached_trigger
+returns-then-not-reached_trigger c = search passes
+
+pub loop-i-preserved : goal.loop-i-preserved
+loop-i-preserved c = search passes
+
+pub returns : goal.returns
+returns c = search passes

@@ -1,0 +1,17 @@
+use borrow.Author.Rules.{rules}
+use Rattle.language.specs.Condition.{lamp_point}
+use Rattle.sections.proofs.ConditionChain.{compared}
+use Rattle.sections.proofs.condition.lamp_point.Statement.{statement}
+use Rattle.sections.proofs.condition.lamp_point.Tie as tie
+
+pub lamp_point_spec : {M : Type 1} → statement M
+unfolding lamp_point
+lamp_point_spec =
+    tie.close
+    (tie.spec
+    (λ c κs. search rules)
+    (λ c. search rules)
+    (λ c. search compared depth 12)
+    (λ c. search rules)
+    (λ c κs. search rules)
+    (λ c. search compared depth 12))

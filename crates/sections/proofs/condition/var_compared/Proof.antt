@@ -1,0 +1,20 @@
+use borrow.Author.Rules.{rules}
+use Rattle.language.specs.Condition.{var_compared}
+use Rattle.sections.proofs.ConditionChain.{compared}
+use Rattle.sections.proofs.condition.var_compared.Statement.{statement}
+use Rattle.sections.proofs.condition.var_compared.Tie as tie
+
+pub var_compared_spec : {M : Type 1} → statement M
+unfolding var_compared
+var_compared_spec =
+    tie.close
+    (tie.spec
+    (λ c κs. search rules)
+    (λ c. search rules)
+    (λ c. search compared depth 12)
+    (λ c. search rules)
+    (λ c κs. search rules)
+    (λ c. search rules)
+    (λ c. search compared depth 12)
+    (λ c. search rules)
+    (λ c. search compared depth 12))

@@ -1,0 +1,18 @@
+use borrow.Author.Rules.{rules}
+use Rattle.language.specs.Condition.{var_condition}
+use Rattle.sections.proofs.ConditionChain.{compared}
+use Rattle.sections.proofs.condition.var_condition.Statement.{statement}
+use Rattle.sections.proofs.condition.var_condition.Tie as tie
+
+pub var_condition_spec : {M : Type 1} → statement M
+unfolding var_condition
+var_condition_spec =
+    tie.close
+    (tie.spec
+    (λ c κs. search rules)
+    (λ c. search rules)
+    (λ c. search compared depth 12)
+    (λ c. search rules)
+    (λ c κs. search rules)
+    (λ c κs. search rules)
+    (λ c. search compared depth 12))
