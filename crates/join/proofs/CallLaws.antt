@@ -1,12 +1,12 @@
 -- The whole call, step by step.
 use Prim.Native.Nat.{ℕ, ◌+◌, ◌≤◌}
 use mathlib.Core.Path.{◌≡◌, ◌∙◌, refl, ap, sym, subst}
-use mathlib.Core.List.{List, [], ◌∷◌, ◌++◌, map, map-append}
-use mathlib.Core.Bool.{Bool, true, false, not}
+use mathlib.Core.List.{List, [], ◌∷◌, map, map-append}
+use mathlib.Core.Bool.{Bool, true, false}
 use native.Mathlib.Omega.{arith}
 use lib.ListN.{length, take, length-append}
 use lib.Seq.{length-take-le}
-use borrow.Author.Tests.{eq-eqb, ne_eqb, not-true, not-false}
+use borrow.Author.Tests.{eq-eqb, ne_eqb}
 use Rattle.model.specs.Lists.{triggers_of, conditions_of, accepted_with, refused_with}
 use mir.Syntax.{w8}
 use mir.Val.{Fits}
@@ -15,12 +15,10 @@ use Rattle.model.specs.declared.Name.{Name}
 use Rattle.model.specs.declared.Trigger.{Trigger}
 use Rattle.model.specs.declared.TriggerRow.{TriggerRow}
 use Rattle.model.specs.declared.Triggers.{Triggers}
-use Rattle.model.specs.declared.Condition.{Condition}
-use Rattle.model.specs.declared.Conditions.{Conditions}
 use Rattle.model.specs.declared.Answer.{Answer}
 use Rattle.sheet.specs.declared.Call.{Call}
 use Rattle.topics.specs.Topics.{lent_topics}
-use Rattle.topics.specs.Ranges.{range_words, name_in, topic_by, topics_at, lent_with}
+use Rattle.topics.specs.Ranges.{range_words, topic_by, lent_with}
 use Rattle.topics.specs.declared.ranges.Topic.{Topic}
 use Rattle.topics.specs.declared.ranges.Topic.TheVariants.{Absent, Is}
 use Rattle.topics.proofs.RangeLaws.{topics_at_lem}
@@ -28,7 +26,7 @@ use Rattle.language.specs.Limits.{most_triggers}
 use Rattle.language.specs.Topics.{topic_name, topic_of, topics_of}
 use Rattle.language.specs.Read.{Outcome, read_of, rule_call}
 use Rattle.language.specs.Demand.{Exact}
-use Rattle.join.specs.Join.{Taken, taken_from, triggers_in, conditions_in, kept_all, joined_triggers, same_conditions, refused_join, by_count, both_read, by_second, earlier_topics, Join, join_of}
+use Rattle.join.specs.Join.{taken_from, triggers_in, conditions_in, kept_all, joined_triggers, same_conditions, refused_join, by_count, both_read, by_second, earlier_topics, Join, join_of}
 use Rattle.join.specs.Kept.{most_kept, kept_of, names_by, topic_names, topics_held, OfKept, OfConditions, Few, Finished}
 use Rattle.join.specs.declared.Joined.{Joined}
 use Rattle.join.specs.declared.Kept.{Kept}
@@ -80,11 +78,11 @@ one-few {none} kept list e few h =
 -- both are read
 module _ (first second : List ℕ) (one two : Answer) {b : Bool}
     (said : b ≡ same_conditions first second (conditions_in one.conditions) (conditions_in two.conditions)) where
-  pub both-differ : not b ≡ true → {r : Joined} → r ≡ refused_join 0 (refused_with 51 0 0 0) → r ≡ both_read first second one two
+  pub both-differ : b ≡ false → {r : Joined} → r ≡ refused_join 0 (refused_with 51 0 0 0) → r ≡ both_read first second one two
   unfolding both_read
-  both-differ h e = rw (← said, not-true b h) e
+  both-differ h e = rw (← said, h) e
 
-  pub both-joined : not b ≡ false → Finished one → {none kept more : Kept} → none ≡ kept_of [] →
+  pub both-joined : b ≡ true → Finished one → {none kept more : Kept} → none ≡ kept_of [] →
       OfKept none (λ l. kept ≡ kept_of (kept_all first second l (taken_from 1 (triggers_in one.triggers)))) →
       OfKept kept (λ l. more ≡ kept_of (kept_all first second l (taken_from 2 (triggers_in two.triggers)))) → {r : Joined} →
       OfKept more (λ l. OfConditions one.conditions (λ ys. r ≡ by_count l ys)) → r ≡ both_read first second one two
@@ -93,7 +91,7 @@ module _ (first second : List ℕ) (one two : Answer) {b : Bool}
       let ones = taken_from 1 (triggers_in one.triggers) in
       let twos = taken_from 2 (triggers_in two.triggers) in
       let ys : conditions_in one.conditions ≡ f.conditions = rw (finished-conditions-are f) (conditions-back f.conditions f.few_conditions) in
-      rw (← said, not-false b h, ys, ← all_both first second [] ones twos)
+      rw (← said, h, ys, ← all_both first second [] ones twos)
       (j (kept_all first second (kept_all first second [] ones) twos) (m (kept_all first second [] ones) (k [] n)) f.conditions (finished-conditions-are f))
 
 -- the first text's topics

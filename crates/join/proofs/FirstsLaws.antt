@@ -46,6 +46,7 @@ module _ (first second : List ℕ) where
 
   among-complete : (x : Taken) {ys : List Taken} → HeldTaken x → Each HeldTaken ys → Near x ys → is_among first second x ys ≡ true
   unfolding is_among
+  among-complete x h none a = elim a [ ]
   among-complete x h (more g gs) (here {y = y} s) = rw ((same-held x y h g).1 s)
   among-complete x h (more g gs) (later {y = y} a) =
       either_second (same_trigger (text_of first second y.from) (text_of first second x.from) y.trigger x.trigger) (among-complete x h gs a)
@@ -83,6 +84,7 @@ module _ (first second : List ℕ) where
 
   pub among_one : {x z : Taken} → Near z (x ∷ []) → SameTaken first second x z
   among_one (here s) = s
+  among_one {z = z} (later a) = elim a [ ]
 
   -- the same triggers stand among both
   record Alike (ys zs : List Taken) : Type 0 where

@@ -1,5 +1,4 @@
 -- Document 02, §6: what is joined depends on nothing that is another party's (specs/Joining.antt): a sheet has its part in reading alone.
-use mathlib.Core.Path.{◌≡◌}
 use Rattle.language.specs.Read.{rule_call}
 use Rattle.language.proofs.IsolationLaws.{isolated}
 use Rattle.join.specs.Join.{join_of}

@@ -1,21 +1,19 @@
 -- The kept triggers, as the code holds them.
-use Prim.Native.Nat.{ℕ, zero, suc, ◌+◌, ◌<◌, ◌≤◌}
+use Prim.Native.Nat.{ℕ, suc, ◌+◌, ◌<◌, ◌≤◌}
 use mathlib.Core.Path.{◌≡◌, ◌∙◌, refl, ap, sym}
-use mathlib.Core.List.{List, [], ◌∷◌, ◌++◌, map, append_assoc}
+use mathlib.Core.List.{List, [], ◌∷◌, ◌++◌, map}
 use mathlib.Core.Bool.{Bool, true, false}
 use native.Mathlib.Omega.{arith}
 use native.Mathlib.Numerals.{add-one}
 use lib.ListN.{length, get_or, set, take, drop, drop_of_length-le, length-append}
 use lib.Seq.{drop-cons}
-use lib.Dec.{eqb, ltb}
 use borrow.Author.Tests.{lt-ltb, le-ltb}
 use Rattle.text.specs.Choice.{pick}
-use Rattle.model.specs.Lists.{padded, triggers_of, conditions_of, accepted_with, refused_with}
+use Rattle.model.specs.Lists.{padded, triggers_of, accepted_with, refused_with}
 use Rattle.model.specs.declared.Trigger.{Trigger}
 use Rattle.model.specs.declared.Trigger.TheVariants.{HttpTrigger}
 use Rattle.model.specs.declared.TriggerRow.{TriggerRow}
 use Rattle.model.specs.declared.Triggers.{Triggers}
-use Rattle.model.specs.declared.Condition.{Condition}
 use Rattle.model.specs.declared.Conditions.{Conditions}
 use Rattle.language.specs.Limits.{most_triggers}
 use Rattle.flat.specs.Flat.{no_trigger}

@@ -23,6 +23,7 @@ module _ (first second : List ℕ) where
 
   -- each of the row stands before it, or is kept
   pub firsts-cover : {x : Taken} {before row kept : List Taken} → First before row kept → Near x row → Near x before ⊎ Near x kept
+  firsts-cover (end {before = before}) a = elim a [ ]
   firsts-cover (new n h) (here s) = inr (here s)
   firsts-cover (new n h) (later a) =
       step_left (λ b. inr (here (among_one first second b))) (⊎_elim inl (λ b. inr (later b)) (firsts-cover h a))
@@ -32,18 +33,21 @@ module _ (first second : List ℕ) where
 
   -- what is kept is of the row
   pub firsts-within : {x : Taken} {before row kept : List Taken} → First before row kept → Near x kept → Near x row
+  firsts-within (end {before = before}) a = elim a [ ]
   firsts-within (new n h) (here s) = here s
   firsts-within (new n h) (later a) = later (firsts-within h a)
   firsts-within (again b h) a = later (firsts-within h a)
 
   -- none that is kept stands before the row
   pub firsts-new : {x : Taken} {before row kept : List Taken} → First before row kept → Near x kept → Near x before → ⊥
+  firsts-new (end {before = before}) a b = elim a [ ]
   firsts-new (new n h) (here s) b = n (among_same first second (sym s) b)
   firsts-new (new {x = y} n h) (later a) b = firsts-new h a (among-left first second (y ∷ []) b)
   firsts-new (again {x = y} c h) a b = firsts-new h a (among-left first second (y ∷ []) b)
 
   -- and it is kept once
   pub firsts-once : {x : Taken} {before row kept : List Taken} → First before row kept → Near x kept → Once first second x kept
+  firsts-once (end {before = before}) a = elim a [ ]
   firsts-once {before = before} (new n h) (here s) = only s (λ a. firsts-new h a (among-right first second before (here s)))
   firsts-once {before = before} (new n h) (later a) =
       behind (λ s. firsts-new h a (among-right first second before (here s))) (firsts-once h a)

@@ -1,11 +1,10 @@
 -- Lists in rows: the entries in use, padded ones, and one more behind them.
 use Prim.Native.Nat.{ℕ, zero, suc, ◌+◌, ◌<◌, ◌≤◌}
-use mathlib.Core.Path.{◌≡◌, ◌∙◌, refl, ap, sym}
+use mathlib.Core.Path.{◌≡◌, refl, ap}
 use mathlib.Core.List.{List, [], ◌∷◌, ◌++◌, map}
 use native.Mathlib.Omega.{arith}
 use native.Mathlib.Numerals.{add-one}
-use lib.ListN.{length, get_or, set, take, drop, length-append}
-use lib.Seq.{drop-cons}
+use lib.ListN.{length, get_or, set, take}
 use Rattle.model.specs.Lists.{padded}
 
 module _ {A B : Type 0} where

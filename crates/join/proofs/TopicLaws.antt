@@ -1,5 +1,5 @@
 -- The ranges of a text's topics, as the code holds them.
-use Prim.Native.Nat.{ℕ, ◌+◌, ◌*◌, ◌<◌, ◌≤◌}
+use Prim.Native.Nat.{ℕ, ◌+◌, ◌<◌, ◌≤◌}
 use mathlib.Core.Path.{◌≡◌, ◌∙◌, refl, ap, sym}
 use mathlib.Core.List.{List, [], ◌∷◌, ◌++◌, map, append-nil, append_assoc}
 use native.Mathlib.Omega.{arith}
@@ -9,11 +9,10 @@ use Rattle.model.specs.declared.Name.{Name}
 use Rattle.model.specs.declared.Trigger.{Trigger}
 use Rattle.model.specs.declared.TriggerRow.{TriggerRow}
 use Rattle.model.specs.declared.Triggers.{Triggers}
-use Rattle.topics.specs.Ranges.{range_words, name_in, topic_by, topics_at}
+use Rattle.topics.specs.Ranges.{range_words}
 use Rattle.topics.specs.declared.ranges.Topic.{Topic}
 use Rattle.topics.specs.declared.ranges.Topic.TheVariants.{Absent, Is}
-use Rattle.topics.proofs.RangeLaws.{topics_at_lem}
-use Rattle.language.specs.Topics.{topic_name, topic_of, topics_of}
+use Rattle.language.specs.Topics.{topic_name}
 use Rattle.flat.specs.Flat.{no_trigger}
 use Rattle.join.specs.Join.{triggers_in}
 use Rattle.join.specs.Kept.{most_kept, names_by, topic_names, topics_held, OfTopics}

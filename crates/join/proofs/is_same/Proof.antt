@@ -3,7 +3,7 @@ use mathlib.Core.Path.{◌≡◌, ◌∙◌}
 use mathlib.Core.Bool.{Bool}
 use mathlib.Core.List.{List}
 use borrow.Author.Rules.{rules}
-use borrow.Author.Tests.{eq-eqb, ne_eqb}
+use borrow.Author.Tests.{ne_eqb}
 use Rattle.model.specs.declared.Trigger.{Trigger}
 use Rattle.compare.specs.Compare.{trigger_entry, same_entry}
 use Rattle.compare.specs.declared.Entry.{Entry}

@@ -1,4 +1,3 @@
-use native.Mathlib.Omega.{arith}
 use borrow.Author.Rules.{rules}
 use Rattle.join.proofs.TopicLaws.{topic-none, topic-more}
 use Rattle.join.proofs.with_topic.Statement.{statement}
