@@ -1,4 +1,3 @@
-use borrow.Author.Rules.{rules}
 use mathlib.Core.Path.{◌≡◌, ◌∙◌, sym}
 use mathlib.Core.List.{List}
 use Prim.Native.Nat.{ℕ, ◌<◌, ◌≤◌}
@@ -10,8 +9,7 @@ use Rattle.tokens.specs.Buffer.{lex_number}
 use Rattle.tergyosul.specs.Lexing.{four_first, lex_flat}
 use Rattle.tergyosul.specs.Room.{no_room, lex_answer_words, by_room}
 use Rattle.tergyosul.proofs.RoomLaws.{no_room_lem, room}
-use Rattle.tergyosul.proofs.tergyosul_lex.Statement.{statement}
-use Rattle.tergyosul.proofs.tergyosul_lex.Tie as tie
+use Rattle.tergyosul.proofs.tergyosul_lex.Goals as goal
 
 -- the answer at entry is e; without room it stays as it is
 unwritten : (e : List ℕ) (y : Lexed) → length e < lex_answer_words → e ≡ lex_flat y e
@@ -32,20 +30,11 @@ module _ (e v : List ℕ) {x y : Lexed} {w u a : List ℕ} (long : lex_answer_wo
   unfolding lex_number lex_flat
   refused d h k g = (room _ _ _ long (rw (sym d ∙ h)), (room _ _ _ long k, g ∙ rw (sym d ∙ h)))
 
-pub tergyosul_lex_spec : {M : Type 1} → statement M
-tergyosul_lex_spec =
-    tie.close
-    (tie.spec
-    (λ c. let short = c.if1.true in (no_room_lem _ _ _ _ short, (no_room_lem _ _ _ _ short, unwritten _ _ short)))
-    (λ c κs. search rules)
-    (λ c. search rules)
-    (λ c κs. search rules)
-    (λ c κs. search rules)
-    (λ c. search rules)
-    (λ c κs. search rules)
-    (λ c. search rules)
-    (λ c. search rules)
-    (λ c. accepted _ _ c.before.before.before.before.before.before.before.before.before.before.before.before.if1.false c.before.before.before.before.before.before.before.before.before.before.lex.ensures.0.0 c.before.before.before.before.before.before.lexed.given.1 c.before.before.before.before.before.before.before.before.before.before.lex.ensures.0.1 c.before.before.put_four.ensures c.before.before.before.held.ensures)
-    (λ c. search rules)
-    (λ c. search rules)
-    (λ c. refused _ _ c.before.before.before.before.before.before.before.before.before.before.before.if1.false c.before.before.before.before.before.before.before.before.before.lex.ensures.0.0 c.before.before.before.before.before.lexed2.given.1 c.before.before.before.before.before.before.before.before.before.lex.ensures.0.1 c.before.before.put-four2.ensures))
+pub returns-then-answer-lt-LEX_WORDS : goal.returns-then-answer-lt-LEX_WORDS
+returns-then-answer-lt-LEX_WORDS c = let short = c.if-answer-lt-LEX_WORDS.true in record { number = no_room_lem _ _ _ _ short; words = no_room_lem _ _ _ _ short; answer = unwritten _ _ short }
+
+pub returns-in-Tokens : goal.returns-in-Tokens
+returns-in-Tokens c = let both = accepted _ _ c.if-answer-lt-LEX_WORDS.false c.lex-lexed.ensures.value.0 c.in-Tokens.is c.lex-lexed.ensures.value.1 c.put_four.ensures c.held.ensures in record { number = both.0; words = both.1.0; answer = both.1.1 }
+
+pub returns-in-Refused : goal.returns-in-Refused
+returns-in-Refused c = let both = refused _ _ c.if-answer-lt-LEX_WORDS.false c.lex-lexed.ensures.value.0 c.in-Refused.is c.lex-lexed.ensures.value.1 c.put_four-in-Refused.ensures in record { number = both.0; words = both.1.0; answer = both.1.1 }

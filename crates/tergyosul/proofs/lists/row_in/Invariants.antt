@@ -1,0 +1,12 @@
+use Prim.Native.Nat.{◌≤◌, ◌-◌}
+use mathlib.Core.Path.{◌≡◌}
+use lib.ListN.{length, take}
+use Rattle.flat.specs.Flat.{row_words}
+use Rattle.tergyosul.specs.Writing.{row_in}
+use Rattle.tergyosul.proofs.lists.row_in.Given as goal
+
+abbrev pub invariant-loop-i : goal.invariant-loop-i
+invariant-loop-i l = (l.i ≤ row_words) × (length l.out ≡ row_words) × (take l.i l.out ≡ take l.i (row_in l.words l.row))
+
+abbrev pub decreases-loop-i : goal.decreases-loop-i
+decreases-loop-i l = row_words - l.i
