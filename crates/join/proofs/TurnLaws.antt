@@ -91,7 +91,7 @@ module _ (party primary : ℕ) (in_range : primary ≤ last_adapter) (first seco
         let e = eq-eqb two.answer.number 0 (read call in_range second sheet (lent ++ topics_of (name_in first) xs) others g) in
         record {
           neither = ap (λ (j : Join). j.joined.which) behind-first ∙ rw e (which-neither first second one two.answer);
-          first_words_lem = ap (λ (j : Join). j.first_buffer) behind-first;
+          first_words = ap (λ (j : Join). j.first_buffer) behind-first;
           second_words = ap (λ (j : Join). j.second_buffer) behind-first;
         }
 

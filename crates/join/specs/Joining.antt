@@ -129,7 +129,7 @@ module _ (party primary : ℕ) (first second sheet : List ℕ) (lent : List (Lis
   -- neither is refused by the reader
   pub record Unrefused (join : Join) (xs : List Trigger) : Type 0 where
     pub neither : join.joined.which ≡ 0
-    pub first_words_lem : join.first_buffer ≡ read_first.buffer
+    pub first_words : join.first_buffer ≡ read_first.buffer
     pub second_words : join.second_buffer ≡ (read_second xs).buffer
 
   -- what is answered, and the words of both buffers at exit

@@ -186,7 +186,7 @@ module _ {text : List ℕ} (short : length text ≤ most_bytes) where
       Utf8Octets back rest → (i : ℕ) → InWords text (record_words l) i
   unfolding record_words record_of
   words_in_lem (Lexes.end t) e o r i = none_in text i
-  words_in_lem (Lexes.too_many_lem t b) e o r i = none_in text i
+  words_in_lem (Lexes.too_many t b) e o r i = none_in text i
   words_in_lem (Lexes.refusal t b s j) e o r i = none_in text i
   words_in_lem (Lexes.next {gap} {u} t b s j x) e o r zero =
       let g = split gap r in

@@ -86,7 +86,7 @@ lexical-known Lexical.places = omega arith
 lexical-known Lexical.no_unit = omega arith
 lexical-known Lexical.long = omega arith
 lexical-known Lexical.fine = omega arith
-lexical-known Lexical.too_many_lem = omega arith
+lexical-known Lexical.too_many = omega arith
 
 parsed-known : (l : Lexing) (m : Res Lists) → Refuses m → Known (parsed l m).number
 unfolding parsed accepted_with refused_with Refuses

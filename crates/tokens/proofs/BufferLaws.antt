@@ -19,7 +19,7 @@ use Rattle.tokens.specs.Record.{record_size, capacity, place_unit, words_of, wri
 use Rattle.tokens.specs.Cursor.{tokens}
 use Rattle.tokens.specs.Lexing.{record_of, Lexing, ended, refused, token}
 use Rattle.tokens.specs.Lex.{lex_text, answer_from, written_from, lexeme, lex_at, lex_no_more, behind as past-trivia, lex_from}
-use Rattle.tokens.specs.Layout.{Laid, Lexical, no_token_rule, unterminated, too_large, no_time, places, no_unit, long, fine, too_many_lem}
+use Rattle.tokens.specs.Layout.{Laid, Lexical, no_token_rule, unterminated, too_large, no_time, places, no_unit, long, fine, too_many}
 use Rattle.tokens.specs.declared.record.Record.{Record}
 use Rattle.tokens.specs.declared.lexer.Lexed.{Lexed}
 use Rattle.tokens.specs.declared.lexer.Lexed.TheVariants.{Tokens, Refused}
@@ -107,7 +107,7 @@ lexical places e = omega arith
 lexical no_unit e = omega arith
 lexical long e = omega arith
 lexical fine e = omega arith
-lexical too_many_lem e = omega arith
+lexical too_many e = omega arith
 
 -- ---- the records
 

@@ -21,7 +21,7 @@ use Rattle.tokens.specs.Record.{record_size, capacity, words_of, written}
 use Rattle.tokens.specs.Token.{look, token_at}
 use Rattle.tokens.specs.Lexing.{Lexing, ended, refused, token, most_tokens, most_bytes, least_words}
 use Rattle.tokens.specs.Lex.{lexeme, lex_at, lex_no_more, behind, lex_from, lex_text, answer_from, written_from, answer_by, words_by, lex_answer, lex_words}
-use Rattle.tokens.specs.Layout.{Laid, Lexical, no_token_rule, unterminated, too_large, no_time, places, no_unit, long, fine, too_many_lem}
+use Rattle.tokens.specs.Layout.{Laid, Lexical, no_token_rule, unterminated, too_large, no_time, places, no_unit, long, fine, too_many}
 use Rattle.tokens.specs.Ended.{record_words}
 use Rattle.tokens.specs.Buffer.{Holds, lex_number, is_asked_first, front_of}
 use Rattle.tokens.specs.declared.record.Record.{Record}
@@ -143,7 +143,7 @@ lexical-late places = refl
 lexical-late no_unit = refl
 lexical-late long = refl
 lexical-late fine = refl
-lexical-late too_many_lem = refl
+lexical-late too_many = refl
 
 answer-late : {s : List ℕ} {before : List Character} {l : Lexing} → Laid s before l → (n : ℕ) → is_asked_first (lex_number (answer_from n l)) ≡ false
 unfolding lex_number answer_from

@@ -103,11 +103,11 @@ laid_of : {n : ℕ} {x y : List ℕ} {l : Lexing} → Lexes n x y l → (s : Lis
 laid_of (Lexes.end t) s before after e f g =
     let k : chars s 0 ≡ before ++ (after ++ []) = e ∙ rw append-nil in
     rw (place_of s before after [] k f g) (Laid.end after (rw g t) e)
-laid_of (Lexes.too_many_lem {gap} {rest} t b) s before after e f g =
+laid_of (Lexes.too_many {gap} {rest} t b) s before after e f g =
     let x = parted after gap rest g in
     let k : chars s 0 ≡ before ++ (x.front ++ x.back) = e ∙ ap (λ (l : List Character). before ++ l) x.is in
     rw (place_of s before x.front x.back k f x.front_is)
-    (laid-refusal x.front x.back (rw x.front_is t) b x.back_is k Lexical.too_many_lem)
+    (laid-refusal x.front x.back (rw x.front_is t) b x.back_is k Lexical.too_many)
 laid_of (Lexes.refusal {gap} {u} {rest} t b h j) s before after e f g =
     let x = parted after gap (u ++ rest) g in
     let k : chars s 0 ≡ before ++ (x.front ++ x.back) = e ∙ ap (λ (l : List Character). before ++ l) x.is in

@@ -50,7 +50,7 @@ next_in r words i h = rw (next_word r words i 0, next_word r words i 1) h
 words_in_lem : {n : ℕ} {before rest : List ℕ} {l : Lexing} → Lexes n before rest l → (i : ℕ) → InWords (record_words l) i
 unfolding record_words record_of
 words_in_lem (Lexes.end t) i = none_in i
-words_in_lem (Lexes.too_many_lem t b) i = none_in i
+words_in_lem (Lexes.too_many t b) i = none_in i
 words_in_lem (Lexes.refusal t b s j) i = none_in i
 words_in_lem (Lexes.next t b s j x) zero = first_in_lem _ _ (judged_in j)
 words_in_lem (Lexes.next t b s j x) (suc i) = next_in _ _ i (words_in_lem x i)

@@ -104,7 +104,7 @@ unfolding lexeme_of
 lexes-only {n} (Lexes.end {gap} t) {s} {p} r l =
     let f = front {s = s} {p = p} gap [] (rw append-nil l) in
     end_is n s p (end_row t f.reads f.rest) (look_stop f.rest) ∙ ap ended (place_read (then r f.reads))
-lexes-only (Lexes.too_many_lem {gap} {rest} t b) {p} r l =
+lexes-only (Lexes.too_many {gap} {rest} t b) {p} r l =
     let f = front gap rest l in
     too_many-is p (gap_row t f.reads f.rest b) f.rest b ∙ ap (refused 19) (place_read (then r f.reads))
 lexes-only (Lexes.refusal {n} {number} {gap} {u} {rest} t b h j) {p} r l =
@@ -125,7 +125,7 @@ abbrev LexesFound : ℕ → List ℕ → List ℕ → Type 0
 LexesFound n before rest = (l : Lexing) × Lexes n before rest l
 
 none_found : {before rest : List ℕ} → GapFound rest → LexesFound zero before rest
-none_found (inner t b) = (_, Lexes.too_many_lem t b)
+none_found (inner t b) = (_, Lexes.too_many t b)
 none_found (last t) = (_, Lexes.end t)
 
 token-found : {n : ℕ} {before gap u rest : List ℕ} {shape : Shape} (v : Verdict) → Judged shape v → Trivia gap → Begins (u ++ rest) → Shaped u rest shape →

@@ -48,7 +48,7 @@ pub data Lexical : ℕ → Type 0 where
   no_unit : Lexical 16
   long : Lexical 17
   fine : Lexical 18
-  too_many_lem : Lexical 19
+  too_many : Lexical 19
 
 -- the tokens of s behind the characters `before`, and how they end
 pub data Laid (s : List ℕ) : List Character → Lexing → Type 0 where

@@ -238,7 +238,7 @@ pub data Lexes : ℕ → List ℕ → List ℕ → Lexing → Type 0 where
   -- only white space and comments are left
   end : {n : ℕ} {before gap : List ℕ} → Trailing gap → Lexes n before gap (ended (place_after (before ++ gap)))
   -- "A 1,025th token absent? 19, asked before that token is read."
-  too_many_lem : {before gap rest : List ℕ} → Trivia gap → Begins rest →
+  too_many : {before gap rest : List ℕ} → Trivia gap → Begins rest →
       Lexes zero before (gap ++ rest) (refused 19 (place_after (before ++ gap)))
   -- "the place is the token's first character"
   refusal : {n number : ℕ} {before gap u rest : List ℕ} {shape : Shape} → Trivia gap → Begins (u ++ rest) → Shaped u rest shape →
