@@ -63,7 +63,7 @@ by_primary text view lent words true =
     record { answer = lexed_from text view lent (lex_text text) (lex_text text); buffer = written_from 0 words (lex_text text) }
 by_primary text view lent words false = record { answer = refused_with 53 0 0 0; buffer = words }
 
--- "Text well_formed UTF-8 (RFC 3629)? 4"
+-- "Text well-formed UTF-8 (RFC 3629)? 4"
 unfoldable pub by_text : List ℕ → View → List (List ℕ) → List ℕ → Bool → Checked → Outcome
 by_text text view lent words own WellFormed = by_primary text view lent words own
 by_text text view lent words own (IllFormed line column) = record { answer = refused_with 4 line column 0; buffer = words }

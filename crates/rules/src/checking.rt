@@ -1,4 +1,4 @@
-// `rules check RULES SHEET`, with perhaps options: both lists in plain words, or one diagnostic. `write` and `rows_back` go the same way up to a rule that is
+// `rules check RULES SHEET`, with perhaps options: both lists in plain words, or one diagnostic. `write` and `rows-back` go the same way up to a rule that is
 // accepted, of which they make something else, and `rows` up to its files.
 use crate::{diagnose, from_rows, reading, to_rows, writing_out};
 use sheet::{Call, Habit};

@@ -1,4 +1,4 @@
-// `rules rows_back RULES SHEET`, with perhaps options, where the rule is accepted: its rows, alone on standard output, and what was left out of the original on
+// `rules rows-back RULES SHEET`, with perhaps options, where the rule is accepted: its rows, alone on standard output, and what was left out of the original on
 // standard error. Or one diagnostic.
 use crate::{checking, reading, writing_out};
 use sheet::Call;

@@ -14,7 +14,7 @@ owner_by a (Party b party) other = pick (eqb b a) party other
 owner_by a (Row kind adapter number) other = other
 owner_by a Bad other = other
 
--- "Rows `party,A,P` say whose an adapter is; without one it is party 0's". A well_formed sheet has at most one for an adapter.
+-- "Rows `party,A,P` say whose an adapter is; without one it is party 0's". A well-formed sheet has at most one for an adapter.
 unfoldable pub owner_of : ℕ → List (List ℕ) → ℕ
 owner_of a [] = 0
 owner_of a (l ∷ ls) = owner_by a (line_of l) (owner_of a ls)

@@ -189,7 +189,7 @@ same_row r t (more {u} {v} a l) (more {u = w} {v = x} b m) e h k =
     let i = same_row r t l m (append_cancel_left u (v ++ r) (x ++ t) (f ∙ rw q.0)) h k in
     ((cc), (cc))
 
--- the characters of well_formed octets, by the rules, are those that are read
+-- the characters of well-formed octets, by the rules, are those that are read
 pub octets-codes : {s cs : List ℕ} → Utf8Octets s cs → codes (chars s 0) ≡ cs
 octets-codes {s} h =
     let r = row_from s (suc (length s)) 0 (omega arith) in

@@ -437,7 +437,7 @@ ten_thousand (suc (suc (suc (suc (suc d))))) h = absurd (omega arith)
 scaled : (w f a b : ℕ) → a * b ≡ 10000 → (w * 10000 + f * a) * b ≡ (w * b + f) * 10000
 scaled w f a b e = omega (arith, ap (λ (n : ℕ). f * n) e)
 
--- the ten_thousandths of a decimal, as the lexer computes them
+-- the ten-thousandths of a decimal, as the lexer computes them
 pub ten_thousandths : (ws fs : List ℕ) → length fs ≤ 4 → TenThousandths ws fs (value ws * 10000 + value fs * 10 ^ (4 - length fs))
 ten_thousandths ws fs h =
     record { places = h; proportion = scaled (value ws) (value fs) (10 ^ (4 - length fs)) (10 ^ length fs) (ten_thousand (length fs) h) }

@@ -54,7 +54,7 @@ written_from i words (ended p) = words
 written_from i words (refused number p) = words
 written_from i words (token r l) = written_from (i + 1) (written words i r) l
 
--- "Text well_formed UTF-8 (RFC 3629)? 4": the answer and the words at exit once that is asked
+-- "Text well-formed UTF-8 (RFC 3629)? 4": the answer and the words at exit once that is asked
 unfoldable pub answer_by : List ℕ → Checked → Lexed
 answer_by s WellFormed = answer_from 0 (lex_text s)
 answer_by s (IllFormed line column) = Refused 4 line column

@@ -163,7 +163,7 @@ pub record IsTime (hs ms : List ℕ) : Type 0 where
   pub hour : value hs ≤ 23
   pub minute : value ms ≤ 59
 
--- a decimal of at most four places is exactly n ten_thousandths
+-- a decimal of at most four places is exactly n ten-thousandths
 pub record TenThousandths (ws fs : List ℕ) (n : ℕ) : Type 0 where
   pub places : length fs ≤ 4
   pub proportion : n * 10 ^ length fs ≡ (value ws * 10 ^ length fs + value fs) * 10000

@@ -14,3 +14,6 @@ returns-then-len-lt8 c = record { value = c.each_same.ensures; exactly = compare
 
 pub returns : goal.returns
 returns c = record { value = c.blocks_same.ensures; exactly = compared _ _ c.blocks_same.ensures }
+
+pub blocks_same-requires : goal.blocks_same-requires
+blocks_same-requires c = (omega (arith, c.if-len-lt8.false), omega (arith, c.if-b-len.false, c.if-len-lt8.false))
