@@ -1,4 +1,5 @@
 use mathlib.Core.Path.{◌≡◌, refl}
+use Prim.Native.Nat.{◌≤◌}
 use native.Mathlib.Omega.{arith}
 use lib.ListN.{length, length-set}
 use borrow.Author.Rules.{rules}
@@ -6,8 +7,6 @@ use Rattle.chains.specs.Listed.{most_pieces}
 use Rattle.tergyosul.specs.Chains.{chain_answer_words}
 use Rattle.tergyosul.proofs.ChainLaws.{unwritten, one_piece, all-pieces}
 use Rattle.tergyosul.proofs.chain.put_chain.Goals as goal
--- The invariant: the pieces before `i` are written.
-use Prim.Native.Nat.{◌≤◌}
 
 pub returns-then-answer-lt-CHAIN_WORDS : goal.returns-then-answer-lt-CHAIN_WORDS
 returns-then-answer-lt-CHAIN_WORDS c = search (rules, unwritten)

@@ -5,6 +5,7 @@ use lib.Seq.{sets}
 use Rattle.chains.specs.Listed.{most_pieces}
 use Rattle.tergyosul.proofs.chain.put_chain.Given as goal
 
+-- the pieces before `i` are written
 abbrev pub invariant-loop-i : goal.invariant-loop-i
 invariant-loop-i l = (l.i ≤ most_pieces) × (length l.answer ≡ length l.initial.answer) × (sets l.answer (5 + l.i) (drop l.i l.c.pieces) ≡ sets l.initial.answer 5 l.c.pieces)
 

@@ -5,8 +5,6 @@ use Rattle.tergyosul.specs.Writing.{condition_in, conditions_in}
 use Rattle.tergyosul.proofs.WritingLaws.{one-filled, all-filled, four-at}
 use Rattle.tergyosul.proofs.lists.conditions_in.Goals as goal
 
--- The invariant: the entries before `i` are in place.
-
 pub loop-i-init : goal.loop-i-init
 unfolding list_rows
 loop-i-init c = (search rules, refl, refl)

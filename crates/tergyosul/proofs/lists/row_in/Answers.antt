@@ -5,8 +5,6 @@ use Rattle.tergyosul.specs.Writing.{row_in}
 use Rattle.tergyosul.proofs.WritingLaws.{one-filled, all-filled, row-length, row_word}
 use Rattle.tergyosul.proofs.lists.row_in.Goals as goal
 
--- The invariant: the words before `i` are in place.
-
 pub loop-i-init : goal.loop-i-init
 unfolding row_words row_count first_condition first_trigger list_rows
 loop-i-init c = (search rules, refl, refl)

@@ -5,8 +5,6 @@ use Rattle.tergyosul.specs.Writing.{trigger_in, triggers_in}
 use Rattle.tergyosul.proofs.WritingLaws.{one-filled, all-filled, four-at}
 use Rattle.tergyosul.proofs.lists.triggers_in.Goals as goal
 
--- The invariant: the entries before `i` are in place.
-
 pub loop-i-init : goal.loop-i-init
 unfolding list_rows
 loop-i-init c = (search rules, refl, refl)
