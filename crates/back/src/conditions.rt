@@ -1,46 +1,23 @@
 // Conditions, each from its row (flat/specs/Back.antt).
-ghost use Rattle.std.specs.Prelude.{◌≡◌, ◌+◌, ◌≤◌};
-ghost use Rattle.flat.specs.Back.{word, value_back, operand_back, condition_back};
+#![tactic(auto, unfolding(flat::specs::Back::sun_back, flat::specs::Back::power_back, flat::specs::Back::aggregate_back, flat::specs::Back::occupancy_back, flat::specs::Back::crossing_back, flat::specs::Back::hcl_back, flat::specs::Back::headed, flat::specs::Back::coded, flat::specs::Back::condition_back, flat::specs::Flat::condition_words))]
 
-use crate::{choices, parts};
+ghost use Rattle.std.specs.Prelude.{◌≡◌};
+ghost use Rattle.flat.specs.Back.{condition_back};
+
+use crate::choices::{comparison_back, either};
+use crate::parts;
 use flat::rows::Row;
-use model::{Condition, Days, InputRef, LampProperty, Name, Operand, Ref, Value};
-
-// The value that begins at an index.
-fn value_at(row: Row, at: usize) -> Value
-    requires { at ≤ 5 }
-    ensures { result ≡ value_back (word row at) (word row (at + 1)) (word row (at + 2)) (word row (at + 3)) (word row (at + 4)) (word row (at + 5)) (word row (at + 6)) }
-{
-    parts::value_back(
-        row[at],
-        row[at + 1],
-        row[at + 2],
-        row[at + 3],
-        row[at + 4],
-        row[at + 5],
-        row[at + 6],
-    )
-}
-
-// What a var is compared with.
-fn operand_of(row: Row) -> Operand
-    ensures { result ≡ operand_back (word row 4) (word row 5) (word row 6) (word row 7) (word row 8) (word row 9) (word row 10) }
-{
-    parts::operand_back(row[4], row[5], row[6], row[7], row[8], row[9], row[10])
-}
+use model::{
+    Aggregate, Condition, Crossing, Days, Hcl, InputRef, LampProperty, Name, Occupancy, Power, Ref,
+    Sun,
+};
 
 // A row whose kind no condition has is taken for the last one's.
 pub fn condition_back(row: Row) -> Condition
     ensures { result ≡ condition_back row }
 {
-    let a = row[1];
-    let b = row[2];
-    let c = row[3];
-    let d = row[4];
-    let r = Ref {
-        adapter: a,
-        number: b,
-    };
+    let [kind, a, b, c, d, e, f, ..] = row;
+    let r = Ref::new(a, b);
     let input = InputRef {
         device: r,
         instance: c,
@@ -49,35 +26,39 @@ pub fn condition_back(row: Row) -> Condition
         start: a,
         length: b,
     };
-    match row[0] {
-        1 => return Condition::TimeInRange(
-            parts::bound_back(a, b, c),
-            parts::bound_back(d, row[5], row[6]),
-        ),
-        2 => return Condition::SunIs(choices::sun_back(a)),
-        3 => return Condition::LampIs(r, choices::power_back(c)),
-        4 => return Condition::LampCompare(
+    match kind {
+        1 => Condition::TimeInRange(parts::bound_back(a, b, c), parts::bound_back(d, e, f)),
+        2 => Condition::SunIs(either(a, Sun::Up, Sun::Down)),
+        3 => Condition::LampIs(r, either(c, Power::On, Power::Off)),
+        4 => Condition::LampCompare(
             r,
             LampProperty::Level,
-            choices::comparison_back(c),
-            value_at(row, 4),
+            comparison_back(c),
+            parts::value_at(&row, 4),
         ),
-        5 => return Condition::LampCompare(
+        5 => Condition::LampCompare(
             r,
             LampProperty::Cct,
-            choices::comparison_back(c),
-            value_at(row, 4),
+            comparison_back(c),
+            parts::value_at(&row, 4),
         ),
-        6 => return Condition::GroupState(r, choices::aggregate_back(c)),
-        7 => return Condition::InputOccupancy(input, choices::occupancy_back(d)),
-        8 => return Condition::InputLight(input, choices::crossing_back(d), value_at(row, 5)),
-        9 => return Condition::HclState(parts::target_back(a, b, c), choices::hcl_back(d)),
-        10 => return Condition::DeviceOnline(r),
-        11 => return Condition::RuleEnabled(name),
-        12 => return Condition::LastFiredOlderThan(name, c),
-        13 => return Condition::TimerRunning(name),
-        14 => return Condition::ControllerActive,
-        15 => return Condition::VarCompare(name, choices::comparison_back(c), operand_of(row)),
-        _ => return Condition::DayIn(Days { sum: a }),
+        6 => Condition::GroupState(r, either(c, Aggregate::AnyOn, Aggregate::AllOff)),
+        7 => Condition::InputOccupancy(input, either(d, Occupancy::Occupied, Occupancy::Vacant)),
+        8 => Condition::InputLight(
+            input,
+            either(d, Crossing::Above, Crossing::Below),
+            parts::value_at(&row, 5),
+        ),
+        9 => Condition::HclState(
+            parts::target_back(a, b, c),
+            either(d, Hcl::Enabled, Hcl::Overridden),
+        ),
+        10 => Condition::DeviceOnline(r),
+        11 => Condition::RuleEnabled(name),
+        12 => Condition::LastFiredOlderThan(name, c),
+        13 => Condition::TimerRunning(name),
+        14 => Condition::ControllerActive,
+        15 => Condition::VarCompare(name, comparison_back(c), parts::operand_at(&row)),
+        _ => Condition::DayIn(Days { sum: a }),
     }
 }

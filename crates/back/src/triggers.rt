@@ -1,23 +1,23 @@
 // Triggers, each from its row (flat/specs/Back.antt).
+#![tactic(auto, unfolding(flat::specs::Back::power_back, flat::specs::Back::aggregate_back, flat::specs::Back::occupancy_back, flat::specs::Back::crossing_back, flat::specs::Back::online_back, flat::specs::Back::override_back, flat::specs::Back::solar_back, flat::specs::Back::headed, flat::specs::Back::coded, flat::specs::Back::trigger_back, flat::specs::Flat::trigger_words))]
+
 ghost use Rattle.std.specs.Prelude.{◌≡◌};
 ghost use Rattle.flat.specs.Back.{trigger_back};
 
-use crate::{choices, numbers, parts};
+use crate::choices::either;
+use crate::{numbers, parts};
 use flat::rows::Row;
-use model::{Days, InputRef, Name, Ref, Trigger};
+use model::{
+    Aggregate, Crossing, Days, InputRef, Name, Occupancy, Online, Override, Power, Ref, SolarEvent,
+    Trigger,
+};
 
 // A row whose kind no trigger has is taken for the last one's.
 pub fn trigger_back(row: Row) -> Trigger
     ensures { result ≡ trigger_back row }
 {
-    let a = row[1];
-    let b = row[2];
-    let c = row[3];
-    let d = row[4];
-    let r = Ref {
-        adapter: a,
-        number: b,
-    };
+    let [kind, a, b, c, d, e, f, ..] = row;
+    let r = Ref::new(a, b);
     let input = InputRef {
         device: r,
         instance: c,
@@ -26,34 +26,34 @@ pub fn trigger_back(row: Row) -> Trigger
         start: a,
         length: b,
     };
-    match row[0] {
-        1 => return Trigger::InputEvent(
-            parts::selector_back(a, b, c, d),
-            parts::event_back(row[5], row[6]),
-        ),
-        2 => return Trigger::InputOccupancy(input, choices::occupancy_back(d)),
-        3 => return Trigger::InputLightCross(input, choices::crossing_back(d), row[5]),
-        4 => return Trigger::InputPositionChange(input),
-        5 => return Trigger::InputDevicePowerCycled(r),
-        6 => return Trigger::InputDeviceManualConfigChanged(r),
-        7 => return Trigger::AtTime(a, Days { sum: b }),
-        8 => return Trigger::AtSolar(
-            choices::solar_back(a),
+    match kind {
+        1 => Trigger::InputEvent(parts::selector_back(a, b, c, d), parts::event_back(e, f)),
+        2 => Trigger::InputOccupancy(input, either(d, Occupancy::Occupied, Occupancy::Vacant)),
+        3 => Trigger::InputLightCross(input, either(d, Crossing::Above, Crossing::Below), e),
+        4 => Trigger::InputPositionChange(input),
+        5 => Trigger::InputDevicePowerCycled(r),
+        6 => Trigger::InputDeviceManualConfigChanged(r),
+        7 => Trigger::AtTime(a, Days { sum: b }),
+        8 => Trigger::AtSolar(
+            either(a, SolarEvent::Sunrise, SolarEvent::Sunset),
             numbers::offset_back(b),
             Days { sum: c },
         ),
-        9 => return Trigger::Every(a),
-        10 => return Trigger::LampTurns(r, choices::power_back(c)),
-        11 => return Trigger::LampLevelCross(r, choices::crossing_back(c), d),
-        12 => return Trigger::GroupBecomes(r, choices::aggregate_back(c)),
-        13 => return Trigger::SceneRecalled(a, b),
-        14 => return Trigger::DeviceOnline(r, choices::online_back(c)),
-        15 => return Trigger::HclOverride(parts::target_back(a, b, c), choices::override_back(d)),
-        16 => return Trigger::TimerFires(name),
-        17 => return Trigger::ControllerStarts,
-        18 => return Trigger::ControllerBecomesActive,
-        19 => return Trigger::RuleFails(name),
-        20 => return Trigger::HttpTrigger,
-        _ => return Trigger::MqttMessage(name),
+        9 => Trigger::Every(a),
+        10 => Trigger::LampTurns(r, either(c, Power::On, Power::Off)),
+        11 => Trigger::LampLevelCross(r, either(c, Crossing::Above, Crossing::Below), d),
+        12 => Trigger::GroupBecomes(r, either(c, Aggregate::AnyOn, Aggregate::AllOff)),
+        13 => Trigger::SceneRecalled(a, b),
+        14 => Trigger::DeviceOnline(r, either(c, Online::GoesOffline, Online::ComesOnline)),
+        15 => Trigger::HclOverride(
+            parts::target_back(a, b, c),
+            either(d, Override::Starts, Override::Clears),
+        ),
+        16 => Trigger::TimerFires(name),
+        17 => Trigger::ControllerStarts,
+        18 => Trigger::ControllerBecomesActive,
+        19 => Trigger::RuleFails(name),
+        20 => Trigger::HttpTrigger,
+        _ => Trigger::MqttMessage(name),
     }
 }

@@ -241,8 +241,8 @@ is_start_lem nothing = refl
 is_start_lem (listed l) = chained-start _ (listed-chained l)
 
 -- the answers of the call
-pub start-short : {b : Bool} (v : List ℕ) → b ≡ is_start v → b ≡ true → length v ≤ most_pieces
-start-short v e t = started-short (started v (sym e ∙ t))
+pub start_short : {b : Bool} (v : List ℕ) → b ≡ is_start v → b ≡ true → length v ≤ most_pieces
+start_short v e t = started-short (started v (sym e ∙ t))
 
 pub outcome-answered : {v w : List ℕ} → Started v → Outcome v w → Answered v (chain w)
 outcome-answered s (followed f) = next (starts s) f
@@ -256,16 +256,8 @@ pub next-answered : (v : List ℕ) → Answered v (next_of v)
 unfolding next_of
 next-answered v = answered v (is_start v) refl
 
-pub next-by : {b : Bool} {r : Chain} (v : List ℕ) → b ≡ is_start v → b ≡ true → r ≡ chain (following v) → r ≡ next_of v
-unfolding next_of
-next-by v e t f = rw (← e, t) f
-
-pub next-no : {b : Bool} {r : Chain} (v : List ℕ) → b ≡ is_start v → b ≡ false → r ≡ refused → r ≡ next_of v
-unfolding next_of
-next-no v e t f = rw (← e, t) f
-
-pub both : {r : Chain} (v : List ℕ) → r ≡ next_of v → (r ≡ next_of v) × Answered v r
-both v e = (e, subst (λ (c : Chain). Answered v c) (sym e) (next-answered v))
+pub answered_by : {r : Chain} (v : List ℕ) → r ≡ next_of v → Answered v r
+answered_by v e = subst (λ (c : Chain). Answered v c) (sym e) (next-answered v)
 
 -- for those who read an answer: the count is within the pieces, and each piece is one of the vocabulary
 pub count_fits : {v : List ℕ} {c : Chain} → Answered v c → c.count ≤ most_pieces

@@ -64,6 +64,14 @@ pub ruleset leasts = (rules, least_start, least-found, least-next, least-none)
 left-length : (v : List ℕ) (i : ℕ) → length (drop (i + 1) v) ≡ length v - i - 1
 left-length v i = rw length-drop (omega arith)
 
+-- the best index so far, with that of this piece
+module _ (l i best : ℕ) {b : ℕ} where
+  pub raised-here : l < piece_count → b ≡ i → b ≡ pick (ltb l piece_count) i best
+  raised-here h e = rw (lt-ltb l piece_count h) e
+
+  pub raised-before : piece_count ≤ l → b ≡ best → b ≡ pick (ltb l piece_count) i best
+  raised-before h e = rw (le-ltb l piece_count h) e
+
 pub raised-next : {p : Place} {l b r : ℕ} (s : Place) (v : List ℕ) (i best : ℕ) → i < length v →
     l ≡ least s (get_or v i 0 + 1) (length v - i - 1) → b ≡ pick (ltb l piece_count) i best → p ≡ step s (get_or v i 0) →
     last_raised s (drop i v) i best ≡ r → last_raised p (drop (i + 1) v) (i + 1) b ≡ r
@@ -171,18 +179,18 @@ no_pieces = refl
 pub ruleset longers = (rules, longer-start, longer-found, longer-next, longer-none, no_pieces)
 
 -- the next one
-pub next-raised : {p : ℕ} {r : Chain} (v : List ℕ) → p ≡ last_raised Start v 0 (length v) → p < length v →
+pub next_raised : {p : ℕ} {r : Chain} (v : List ℕ) → p ≡ last_raised Start v 0 (length v) → p < length v →
     r ≡ chain (built v p (get_or v p 0 + 1) 0 Start (length v)) → r ≡ chain (following v)
 unfolding following raised
-next-raised {p} v e h f = rw (← e, lt-ltb p (length v) h) f
+next_raised {p} v e h f = rw (← e, lt-ltb p (length v) h) f
 
-pub next-longer : {p : ℕ} {r : Chain} (v : List ℕ) → p ≡ last_raised Start v 0 (length v) → length v ≤ p →
+pub next_longer : {p : ℕ} {r : Chain} (v : List ℕ) → p ≡ last_raised Start v 0 (length v) → length v ≤ p →
     r ≡ chain (longer v (length v + 1)) → r ≡ chain (following v)
 unfolding following
-next-longer {p} v e h f = rw (← e, le-ltb p (length v) h) f
+next_longer {p} v e h f = rw (← e, le-ltb p (length v) h) f
 
 -- from where the list may be gone on with
-pub start-by : {p : Place} {r : Bool} (v : List ℕ) → (length v ≡ 0 → ⊥) → length v ≤ most_pieces → p ≡ reached Start v → r ≡ may_end p 0 →
+pub start_by : {p : Place} {r : Bool} (v : List ℕ) → (length v ≡ 0 → ⊥) → length v ≤ most_pieces → p ≡ reached Start v → r ≡ may_end p 0 →
     r ≡ is_start v
 unfolding is_start
-start-by v some few e f = rw (ne_eqb (length v) 0 some, le-ltb most_pieces (length v) few, ← e) f
+start_by v some few e f = rw (ne_eqb (length v) 0 some, le-ltb most_pieces (length v) few, ← e) f

@@ -15,7 +15,8 @@ use crate::place::Place;
 // The longest chain.
 pub const MOST_PIECES: usize = 15;
 
-// A sequence of `count` pieces, those past the count 0; no pieces if none follows; or a refusal's number.
+// A sequence of `count` pieces, those past the count 0; no pieces if none follows; or a refusal's number. An array with a count beside it:
+// nothing is put on the heap.
 #[derive(Clone, Copy)]
 pub struct Chain {
     pub number: u32,
@@ -28,10 +29,8 @@ fn reached(v: &[u8]) -> Place
     ensures { result ≡ reached Start v.now }
 {
     let mut place = Place::Start;
-    let mut i: usize = 0;
-    while i < v.len() {
-        place = place::step(place, v[i]);
-        i += 1;
+    for piece in v {
+        place = place::step(place, *piece);
     }
     place
 }
@@ -40,24 +39,12 @@ fn reached(v: &[u8]) -> Place
 fn least(place: Place, low: u32, left: usize) -> u8
     ensures { result ≡ least place low left }
 {
-    let mut q = low;
-    while q < place::PIECE_COUNT as u32 {
+    for q in low..u32::from(place::PIECE_COUNT) {
         if place::may_end(place::step(place, q as u8), left) {
             return q as u8;
         }
-        q += 1;
     }
     place::PIECE_COUNT
-}
-
-// The index i if the piece there can be raised, which is so if `least` is a piece, and else the best index so far.
-fn better(least: u8, i: usize, best: usize) -> usize
-    ensures { result ≡ pick (ltb least piece_count) i best }
-{
-    if least < place::PIECE_COUNT {
-        return i;
-    }
-    best
 }
 
 // The index of the last piece that can be raised; the length if there is none.
@@ -66,17 +53,17 @@ fn last_raised(v: &[u8]) -> usize
 {
     let mut place = Place::Start;
     let mut best = v.len();
-    let mut i: usize = 0;
-    while i < v.len() {
-        let q = least(place, v[i] as u32 + 1, v.len() - i - 1);
-        best = better(q, i, best);
-        place = place::step(place, v[i]);
-        i += 1;
+    for (i, piece) in v.iter().enumerate() {
+        if least(place, u32::from(*piece) + 1, v.len() - i - 1) < place::PIECE_COUNT {
+            best = i;
+        }
+        place = place::step(place, *piece);
     }
     best
 }
 
 // The piece at the index i of a new sequence, with `left` pieces behind it: that of v before the index p, there the least from `low` on, behind it the least.
+#[tactic(auto, unfolding(crate::specs::Way::piece_at))]
 fn piece_at(v: &[u8], p: usize, low: u32, i: usize, place: Place, left: usize) -> u8
     requires { p ≤ length v.now }
     ensures { result ≡ piece_at v.now p low i place left }
@@ -97,12 +84,10 @@ fn built(v: &[u8], p: usize, low: u32, count: usize) -> Chain
 {
     let mut pieces = [0u8; MOST_PIECES];
     let mut place = Place::Start;
-    let mut i: usize = 0;
-    while i < count {
+    for i in 0..count {
         let q = piece_at(v, p, low, i, place, count - i - 1);
         pieces[i] = q;
         place = place::step(place, q);
-        i += 1;
     }
     Chain {
         number: 0,
@@ -115,12 +100,10 @@ fn built(v: &[u8], p: usize, low: u32, count: usize) -> Chain
 fn longer(v: &[u8], from: usize) -> Chain
     ensures { result ≡ chain (longer v.now from) }
 {
-    let mut n = from;
-    while n <= MOST_PIECES {
+    for n in from..=MOST_PIECES {
         if place::may_end(Place::Start, n) {
             return built(v, 0, 0, n);
         }
-        n += 1;
     }
     Chain {
         number: 0,
@@ -130,22 +113,24 @@ fn longer(v: &[u8], from: usize) -> Chain
 }
 
 // The next one behind a sequence of the list, or behind no pieces.
+#[tactic(auto, using(crate::proofs::WayLaws::next_raised, crate::proofs::WayLaws::next_longer))]
 fn following(v: &[u8]) -> Chain
     requires { length v.now ≤ most_pieces }
     ensures { result ≡ chain (following v.now) }
 {
     let p = last_raised(v);
     if p < v.len() {
-        return built(v, p, v[p] as u32 + 1, v.len());
+        return built(v, p, u32::from(v[p]) + 1, v.len());
     }
     longer(v, v.len() + 1)
 }
 
 // No pieces, or a sequence of the list.
+#[tactic(auto, using(crate::proofs::WayLaws::start_by), unfolding(crate::specs::Way::is_start))]
 fn is_start(v: &[u8]) -> bool
     ensures { result ≡ is_start v.now }
 {
-    if v.len() == 0 {
+    if v.is_empty() {
         return true;
     }
     if MOST_PIECES < v.len() {
@@ -157,6 +142,7 @@ fn is_start(v: &[u8]) -> bool
 // Document 02: "It refuses a start that has tokens and is not itself in the list with 67".
 const NOT_LISTED: u32 = 67;
 
+#[tactic(auto, unfolding(crate::specs::Listed::refused))]
 fn refused() -> Chain
     ensures { result ≡ refused }
 {
@@ -168,6 +154,7 @@ fn refused() -> Chain
 }
 
 // "Given no tokens, the generator yields the first; given one listed, the next, or that none follows."
+#[tactic(auto, using(crate::proofs::NextLaws::start_short, crate::proofs::NextLaws::answered_by), unfolding(crate::specs::Way::next_of))]
 pub fn next(v: &[u8]) -> Chain
     ensures chain { result ≡ next_of v.now }
     ensures listed { Answered v.now result }

@@ -36,7 +36,8 @@ pub enum Place {
     Nowhere,
 }
 
-// The pieces by name: each is its place in the vocabulary (specs/Vocabulary.antt).
+// The pieces by name: each is its place in the vocabulary (specs/Vocabulary.antt). They are numbers, since C hands them over
+// (enum tergyosul_piece).
 const LAMP: u8 = 0;
 
 const SUN: u8 = 1;
@@ -90,25 +91,21 @@ pub const PIECE_COUNT: u8 = 23;
 fn one(piece: u8, wanted: u8, to: Place, other: Place) -> Place
     ensures { result ≡ pick (eqb piece wanted) to other }
 {
-    if piece == wanted {
-        return to;
-    }
-    other
+    if piece == wanted { to } else { other }
 }
 
 fn two(piece: u8, first: u8, second: u8, to: Place, other: Place) -> Place
     ensures { result ≡ pick (eqb piece first) to (pick (eqb piece second) to other) }
 {
-    if piece == first {
-        return to;
+    if piece == first || piece == second {
+        to
+    } else {
+        other
     }
-    if piece == second {
-        return to;
-    }
-    other
 }
 
 // A condition begins.
+#[tactic(auto, unfolding(crate::specs::Places::moved))]
 fn begun(piece: u8) -> Place
     ensures { result ≡ step Start piece }
 {
@@ -118,6 +115,7 @@ fn begun(piece: u8) -> Place
 }
 
 // Behind a lamp: its state, or its level.
+#[tactic(auto, unfolding(crate::specs::Places::moved))]
 fn closed(piece: u8) -> Place
     ensures { result ≡ step LampClosed piece }
 {
@@ -126,6 +124,7 @@ fn closed(piece: u8) -> Place
 }
 
 // A value begins: a number with perhaps a sign, or a lamp's level.
+#[tactic(auto, unfolding(crate::specs::Places::moved))]
 fn compared(piece: u8) -> Place
     ensures { result ≡ step Compared piece }
 {
@@ -136,6 +135,7 @@ fn compared(piece: u8) -> Place
 }
 
 // Behind a sign.
+#[tactic(auto, unfolding(crate::specs::Places::moved))]
 fn signed(piece: u8) -> Place
     ensures { result ≡ step Sign piece }
 {
@@ -144,6 +144,7 @@ fn signed(piece: u8) -> Place
 }
 
 // Behind a lamp's level that is a value.
+#[tactic(auto, unfolding(crate::specs::Places::moved))]
 fn behind_level(piece: u8) -> Place
     ensures { result ≡ step ReadLevel piece }
 {
@@ -151,6 +152,8 @@ fn behind_level(piece: u8) -> Place
     one(piece, AND, Place::Start, sign)
 }
 
+// Where a piece leads: one match on the place, as the definition has it.
+#[tactic(auto, unfolding(crate::specs::Places::moved))]
 pub fn step(place: Place, piece: u8) -> Place
     ensures { result ≡ step place piece }
 {
@@ -214,11 +217,9 @@ fn lengths(place: Place) -> u32
     }
 }
 
+#[tactic(auto, unfolding(crate::specs::Places::may_end))]
 pub fn may_end(place: Place, left: usize) -> bool
     ensures { result ≡ may_end place left }
 {
-    if MOST_PIECES < left {
-        return false;
-    }
-    (lengths(place) >> left) % 2 == 1
+    left <= MOST_PIECES && (lengths(place) >> left) % 2 == 1
 }

@@ -1,2 +1,1 @@
 pub mod SameLaws
-mod RowLaws

@@ -1,5 +1,6 @@
 -- The test of two entries says yes exactly for those that are the same by bytes (language/specs/Same.antt), if words can tell them (flat/specs/Held.antt); and words
 -- can tell every entry of an accepted reading.
+use Rattle.std.specs.Prelude.{Some, None}
 use Prim.Native.Nat.{ℕ, zero, suc, ◌^◌, ◌<◌, ◌≤◌}
 use native.Mathlib.Omega.{arith}
 use mathlib.Core.Path.{◌≡◌, refl, ◌∙◌, ap, sym}
@@ -15,9 +16,7 @@ use Rattle.topics.specs.Ranges.{name_in}
 use Rattle.model.specs.Limits.{last_instance_type}
 use Rattle.model.specs.Ranges.{TypeInRange, SelectorInRange, TriggerInRange, ConditionInRange, Each, InRange}
 use Rattle.model.specs.declared.Condition.{Condition}
-use Rattle.model.specs.declared.Delta.{Delta}
 use Rattle.model.specs.declared.Name.{Name}
-use Rattle.model.specs.declared.Number.{Number}
 use Rattle.model.specs.declared.Operand.{Operand}
 use Rattle.model.specs.declared.Reading.{Reading}
 use Rattle.model.specs.declared.Selector.{Selector}
@@ -196,8 +195,8 @@ offset-held z h = signed-held (omega arith) (omega arith) z h
 selector-held : (s : Selector) → SelectorInRange s → HeldSelector s
 unfolding SelectorInRange TypeInRange last_instance_type HeldSelector HeldNumber
 selector-held (Selector.Instance device n) h = tt
-selector-held (Selector.Group adapter group Number.Absent) h = tt
-selector-held (Selector.Group adapter group (Number.Is n)) h = omega (arith, h.2)
+selector-held (Selector.Group adapter group None) h = tt
+selector-held (Selector.Group adapter group (Some n)) h = omega (arith, h.2)
 
 bound-held : (b : TimeBound) → BoundNumbers b → HeldBound b
 unfolding BoundNumbers HeldBound
@@ -207,8 +206,8 @@ bound-held (TimeBound.Solar e offset) h = offset-held offset h
 value-held : (v : Value) → ValueNumbers v → HeldValue v
 unfolding ValueNumbers DeltaNumbers HeldValue HeldDelta
 value-held (Value.Literal z) h = integer-held z h
-value-held (Value.Reads r Delta.Absent) h = tt
-value-held (Value.Reads r (Delta.Is z)) h = integer-held z h
+value-held (Value.Reads r None) h = tt
+value-held (Value.Reads r (Some z)) h = integer-held z h
 
 operand-held : (v : Operand) → OperandNumbers v → HeldOperand v
 unfolding OperandNumbers HeldOperand

@@ -1,5 +1,4 @@
 pub mod DayLaws
-pub mod DaysChain
 pub mod SetLaws
 pub mod GrammarSound
 pub mod GrammarComplete

@@ -3,17 +3,14 @@ use Prim.Native.Nat.{ℕ, suc, ◌-◌}
 use mathlib.Core.Path.{◌≡◌, ◌∙◌, refl, ap, sym}
 use native.Mathlib.Omega.{arith}
 use Rattle.tokens.specs.Result.{Res, ok, bind, perhaps}
-use Rattle.tokens.specs.Cursor.{Tok, is_kind, accepted}
+use Rattle.tokens.specs.Cursor.{Tok, is_kind, accepted, Taken, to_taken}
 use Rattle.tokens.specs.Kind.{COMMA}
 use Rattle.tokens.specs.declared.cursor.Cursor.{Cursor}
 use Rattle.tokens.specs.declared.cursor.Refusal.{Refusal}
-use Rattle.tokens.specs.declared.cursor.Accepted.{Accepted}
-use Rattle.tokens.specs.declared.cursor.Accepted.TheVariants.{Yes, Left}
-use Rattle.tokens.proofs.Chain.{perhaps-yes, perhaps-no}
 use Rattle.model.specs.declared.Days.{Days}
-use Rattle.days.specs.Read.{range_at, ranges_from, no_day, day_set, to_days}
-use Rattle.days.specs.declared.DaysAnswer.{DaysAnswer}
-use Rattle.days.proofs.DaysChain.{then-days, stop_days, days-ok, days-no}
+use Rattle.days.specs.Read.{range_at, ranges_from, no_day, day_set}
+use Rattle.tokens.proofs.Chain.{taken-ok, taken-no, then-taken, stop_taken, perhaps-yes, perhaps-no}
+use Rattle.std.specs.Prelude.{Option, Some, None, Ok, Err}
 
 -- these days are read, with left more ranges allowed: what is left from i on gives the whole answer
 pub record Going (t : ℕ → Tok) (whole : Res Days) (left : ℕ) (days : Days) (i : ℕ) : Type 0 where
@@ -25,9 +22,9 @@ begin t n i e h = record { same = rw (e, h) }
 
 -- no more are allowed
 pub at-limit : {t : ℕ → Tok} {whole : Res Days} {left : ℕ} {days : Days} {i : ℕ} {r : Refusal} → Going t whole left days i → left ≡ 0 →
-    r ≡ record { number = 20; token = i; detail = 0 } → DaysAnswer.No r ≡ to_days whole
+    r ≡ record { number = 20; token = i; detail = 0 } → Err r ≡ to_taken whole
 unfolding ranges_from
-at-limit {whole = whole} g h e = days-no whole (rw (g.same, h, e))
+at-limit {whole = whole} g h e = taken-no whole (rw (g.same, h, e))
 
 -- what follows a range
 abbrev after : (ℕ → Tok) → ℕ → Days → ℕ → Res Days
@@ -40,22 +37,22 @@ from_one t left days i h =
     ap (λ (n : ℕ). ranges_from t n days i) e
 
 -- the loop's body: one is the range at i, or its refusal
-module _ {t : ℕ → Tok} {whole : Res Days} {left : ℕ} {days : Days} {i : ℕ} {one : DaysAnswer} (going : Going t whole left days i)
-    (some : left ≡ 0 → ⊥) (read : one ≡ to_days (range_at t days i)) where
+module _ {t : ℕ → Tok} {whole : Res Days} {left : ℕ} {days : Days} {i : ℕ} {one : Taken Days} (going : Going t whole left days i)
+    (some : left ≡ 0 → ⊥) (read : one ≡ to_taken (range_at t days i)) where
   turned : whole ≡ bind (range_at t days i) (after t (left - 1))
   turned = going.same ∙ from_one t left days i some
 
-  pub no_range_lem : {r : Refusal} → one ≡ DaysAnswer.No r → DaysAnswer.No r ≡ to_days whole
-  no_range_lem m = days-no whole (stop_days (range_at t days i) (after t (left - 1)) read m ∙ sym turned)
+  pub no_range_lem : {r : Refusal} → one ≡ Err r → Err r ≡ to_taken whole
+  no_range_lem m = taken-no whole (stop_taken (range_at t days i) (after t (left - 1)) read m ∙ sym turned)
 
   -- comma is what stands behind the range
-  module _ {more : Days} {behind : Cursor} {comma : Accepted} (was : one ≡ DaysAnswer.Got more behind)
+  module _ {more : Days} {behind : Cursor} {comma : Option Cursor} (was : one ≡ Ok (more, behind))
       (asked : comma ≡ accepted (is_kind t COMMA behind.index) behind.index) where
     then-after : {y : Res Days} → y ≡ after t (left - 1) more behind.index → y ≡ whole
-    then-after h = then-days (range_at t days i) (after t (left - 1)) read was h ∙ sym turned
+    then-after h = then-taken (range_at t days i) (after t (left - 1)) read was h ∙ sym turned
 
-    pub last-range : comma ≡ Left → DaysAnswer.Got more behind ≡ to_days whole
-    last-range m = days-ok whole (then-after (perhaps-no (is_kind t COMMA behind.index) behind.index _ _ asked m refl))
+    pub last-range : comma ≡ None → Ok (more, behind) ≡ to_taken whole
+    last-range m = taken-ok whole (then-after (perhaps-no (is_kind t COMMA behind.index) behind.index _ _ asked m refl))
 
-    pub go_on : {next : Cursor} → comma ≡ Yes next → Going t whole (left - 1) more next.index
+    pub go_on : {next : Cursor} → comma ≡ Some next → Going t whole (left - 1) more next.index
     go_on m = record { same = sym (then-after (perhaps-yes (is_kind t COMMA behind.index) behind.index _ _ asked m refl)) }

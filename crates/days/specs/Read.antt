@@ -3,12 +3,11 @@ use Rattle.std.specs.Prelude.{ℕ, zero, suc, List, Bool, true, false, leb, ltb}
 use Rattle.text.specs.Choice.{pick}
 use Rattle.text.specs.Literal.{ascii}
 use Rattle.tokens.specs.Kind.{COMMA, POINTS}
-use Rattle.tokens.specs.Result.{Res, ok, no, bind, perhaps, refuse}
-use Rattle.tokens.specs.Cursor.{Tok, is_kind, is_word, at}
+use Rattle.tokens.specs.Result.{Res, ok, bind, perhaps, refuse}
+use Rattle.tokens.specs.Cursor.{Tok, is_kind, is_word}
 use Rattle.tokens.specs.Phrase.{choice_at}
 use Rattle.days.specs.Days.{days_of, has_day, every_day}
 use Rattle.model.specs.declared.Days.{Days}
-use Rattle.days.specs.declared.DaysAnswer.{DaysAnswer}
 
 abbrev pub day_words : List ℕ
 day_words = ascii "mon tue wed thu fri sat sun"
@@ -51,8 +50,3 @@ day_set t fuel i = ranges_from t fuel no_day i
 -- "`on` takes a day set"; "Without `on`, all seven count."
 unfoldable pub on_days : (ℕ → Tok) → ℕ → ℕ → Res Days
 on_days t fuel i = perhaps (is_word t (ascii "on") i) i (λ j. day_set t fuel j) (ok every_day i)
-
--- the answer of the code
-unfoldable pub to_days : Res Days → DaysAnswer
-to_days (ok days i) = DaysAnswer.Got days (at i)
-to_days (no r) = DaysAnswer.No r

@@ -5,17 +5,11 @@ ghost use Rattle.std.specs.Prelude.{◌≡◌, ◌≤◌};
 ghost use Rattle.tokens.specs.Cursor.{tokens, to_taken};
 ghost use Rattle.tokens.specs.Record.{capacity};
 ghost use Rattle.days.specs.Days.{has_day, every_day};
-ghost use Rattle.days.specs.Read.{day_at, last_day, covers, gets_day, with_range, range_at, day_set, no_day, on_days, to_days};
+ghost use Rattle.days.specs.Read.{day_at, last_day, covers, gets_day, with_range, range_at, day_set, no_day, on_days};
 
 use model::Days;
-use tokens::cursor::{Accepted, Cursor, Refusal, Taken};
+use tokens::cursor::{Cursor, Taken, Tokens};
 use tokens::kind;
-
-#[derive(Clone, Copy)]
-pub enum DaysAnswer {
-    Got(Days, Cursor),
-    No(Refusal),
-}
 
 // The last day's number.
 const LAST_DAY: u32 = 6;
@@ -74,6 +68,7 @@ fn with_range(days: Days, from: u32, to: u32) -> Days
 {
     let mut sum: u32 = 0;
     let mut left: u32 = LAST_DAY + 1;
+    // It counts down, as the bits are summed; a `for` would count up and take each number off again.
     while 0 < left {
         left -= 1;
         sum = sum * 2;
@@ -85,79 +80,59 @@ fn with_range(days: Days, from: u32, to: u32) -> Days
 }
 
 // A day, by its word: no word is refused with 20, another with 50.
-fn day_at(c: Cursor, text: &[u8], words: &[u32]) -> Taken
-    ensures { result ≡ to_taken (day_at (tokens text.now words.now) c.index) }
+#[tactic(auto, unfolding(crate::specs::Read::day_at, tokens::specs::Cursor::to_taken))]
+fn day_at(c: Cursor, t: &Tokens<'_>) -> Taken<u32>
+    ensures { result ≡ to_taken (day_at (tokens t.now.text.now t.now.words.now) c.index) }
 {
-    c.expect_choice(text, words, b"mon tue wed thu fri sat sun", 50)
+    c.expect_choice(t, b"mon tue wed thu fri sat sun", 50)
 }
 
 // The last day of a range: behind `..`, or the first.
-fn last_day(from: u32, c: Cursor, text: &[u8], words: &[u32]) -> Taken
-    ensures { result ≡ to_taken (last_day (tokens text.now words.now) from c.index) }
+#[tactic(auto, unfolding(crate::specs::Read::last_day, tokens::specs::Cursor::to_taken, tokens::specs::Cursor::accepted))]
+fn last_day(from: u32, c: Cursor, t: &Tokens<'_>) -> Taken<u32>
+    ensures { result ≡ to_taken (last_day (tokens t.now.text.now t.now.words.now) from c.index) }
 {
-    let points = c.accept(text, words, kind::POINTS);
-    match points {
-        Accepted::Left => Taken::Got(from, c),
-        Accepted::Yes(next) => day_at(next, text, words),
-    }
+    let Some(next) = c.accept(t, kind::POINTS) else {
+        return Ok((from, c));
+    };
+    day_at(next, t)
 }
 
 // A day or a range, put to the days before it.
-fn range_at(days: Days, c: Cursor, text: &[u8], words: &[u32]) -> DaysAnswer
-    ensures { result ≡ to_days (range_at (tokens text.now words.now) days c.index) }
+#[tactic(auto, unfolding(crate::specs::Read::range_at, tokens::specs::Cursor::to_taken))]
+fn range_at(days: Days, c: Cursor, t: &Tokens<'_>) -> Taken<Days>
+    ensures { result ≡ to_taken (range_at (tokens t.now.text.now t.now.words.now) days c.index) }
 {
-    let first = day_at(c, text, words);
-    match first {
-        Taken::No(refusal) => DaysAnswer::No(refusal),
-        Taken::Got(from, next) => {
-            let last = last_day(from, next, text, words);
-            match last {
-                Taken::No(refusal) => DaysAnswer::No(refusal),
-                Taken::Got(to, behind) => DaysAnswer::Got(with_range(days, from, to), behind),
-            }
-        }
-    }
+    let (from, next) = day_at(c, t)?;
+    let (to, behind) = last_day(from, next, t)?;
+    Ok((with_range(days, from, to), behind))
 }
 
 // A day set: days or ranges parted by commas.
-pub fn day_set(c: Cursor, text: &[u8], words: &[u32]) -> DaysAnswer
-    ensures { result ≡ to_days (day_set (tokens text.now words.now) (capacity words.now) c.index) }
+#[tactic(auto, unfolding(crate::specs::Read::day_set, tokens::specs::Cursor::to_taken, tokens::specs::Cursor::accepted))]
+pub fn day_set(c: Cursor, t: &Tokens<'_>) -> Taken<Days>
+    ensures { result ≡ to_taken (day_set (tokens t.now.text.now t.now.words.now) (capacity t.now.words.now) c.index) }
 {
     let mut days = no_day();
     let mut p = c;
-    let mut left = tokens::record::count(words);
-    while left != 0 {
-        let one = range_at(days, p, text, words);
-        match one {
-            DaysAnswer::No(refusal) => {
-                return DaysAnswer::No(refusal);
-            }
-            DaysAnswer::Got(more, behind) => {
-                let comma = behind.accept(text, words, kind::COMMA);
-                match comma {
-                    Accepted::Left => {
-                        return DaysAnswer::Got(more, behind);
-                    }
-                    Accepted::Yes(next) => {
-                        days = more;
-                        p = next;
-                        left -= 1;
-                    }
-                }
-            }
-        }
+    for _ in 0..tokens::record::count(t.words) {
+        let (more, behind) = range_at(days, p, t)?;
+        let Some(next) = behind.accept(t, kind::COMMA) else {
+            return Ok((more, behind));
+        };
+        days = more;
+        p = next;
     }
-    let i = p.index;
-    DaysAnswer::No(tokens::cursor::refuse(20, i))
+    Err(tokens::cursor::refuse(20, p.index))
 }
 
 // The days on which a time counts: those behind `on`, or all seven.
-pub fn on_days(c: Cursor, text: &[u8], words: &[u32]) -> DaysAnswer
-    ensures { result ≡ to_days (on_days (tokens text.now words.now) (capacity words.now) c.index) }
+#[tactic(auto, unfolding(crate::specs::Read::on_days, tokens::specs::Cursor::to_taken, tokens::specs::Cursor::accepted))]
+pub fn on_days(c: Cursor, t: &Tokens<'_>) -> Taken<Days>
+    ensures { result ≡ to_taken (on_days (tokens t.now.text.now t.now.words.now) (capacity t.now.words.now) c.index) }
 {
-    let on = c.accept_kw(text, words, b"on");
-    match on {
-        Accepted::Left => DaysAnswer::Got(every_day(), c),
-        Accepted::Yes(next) => day_set(next, text, words),
-    }
+    let Some(next) = c.accept_kw(t, b"on") else {
+        return Ok((every_day(), c));
+    };
+    day_set(next, t)
 }

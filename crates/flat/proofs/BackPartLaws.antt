@@ -1,4 +1,5 @@
 -- The parts of an entry are read back from their words: choices, numbers, and what is made of them.
+use Rattle.std.specs.Prelude.{Option, Some, None}
 use Prim.Native.Nat.{ℕ, ◌+◌, ◌*◌, ◌-◌, ◌^◌}
 use native.Mathlib.Omega.{arith}
 use mathlib.Core.Path.{◌≡◌, refl, ◌∙◌, ap}
@@ -10,7 +11,6 @@ use borrow.Author.Tests.{lt-ltb, le-ltb, ne_eqb}
 use Rattle.model.specs.declared.Aggregate.{Aggregate}
 use Rattle.model.specs.declared.Comparison.{Comparison}
 use Rattle.model.specs.declared.Crossing.{Crossing}
-use Rattle.model.specs.declared.Delta.{Delta}
 use Rattle.model.specs.declared.Event.{Event}
 use Rattle.model.specs.declared.EventReading.{EventReading}
 use Rattle.model.specs.declared.GroupReading.{GroupReading}
@@ -18,7 +18,6 @@ use Rattle.model.specs.declared.Hcl.{Hcl}
 use Rattle.model.specs.declared.InputReading.{InputReading}
 use Rattle.model.specs.declared.LampReading.{LampReading}
 use Rattle.model.specs.declared.Name.{Name}
-use Rattle.model.specs.declared.Number.{Number}
 use Rattle.model.specs.declared.Occupancy.{Occupancy}
 use Rattle.model.specs.declared.Online.{Online}
 use Rattle.model.specs.declared.Operand.{Operand}
@@ -81,10 +80,10 @@ comparison_back_lem Comparison.Le = refl
 comparison_back_lem Comparison.Gt = refl
 comparison_back_lem Comparison.Lt = refl
 
-pub type_back_lem : (n : Number) → HeldNumber n → type_back (type_or_none n) ≡ n
+pub type_back_lem : (n : Option ℕ) → HeldNumber n → type_back (type_or_none n) ≡ n
 unfolding type_back HeldNumber
-type_back_lem Number.Absent h = refl
-type_back_lem (Number.Is n) h = rw (ne_eqb n no_type (omega arith))
+type_back_lem None h = refl
+type_back_lem (Some n) h = rw (ne_eqb n no_type (omega arith))
 
 -- two's complement, in the bits that hold the numbers from -most to most - 1
 complement : ℕ → ℤ → ℕ
@@ -173,17 +172,17 @@ pub value_back_lem : (v : Value) → HeldValue v →
     value_back (w 0) (w 1) (w 2) (w 3) (w 4) (w 5) (w 6) ≡ v
 unfolding value_back headed coded value_words HeldValue HeldDelta
 value_back_lem (Value.Literal z) h = ap Value.Literal (number_back_lem z h)
-value_back_lem (Value.Reads r Delta.Absent) h = reading_back_lem (λ (x : Reading) low high. Value.Reads x Delta.Absent) r 0 0
-value_back_lem (Value.Reads r (Delta.Is z)) h =
-    reading_back_lem (λ (x : Reading) low high. Value.Reads x (Delta.Is (number_back low high))) r (low_word z) (high_word z)
-    ∙ ap (λ (y : ℤ). Value.Reads r (Delta.Is y)) (number_back_lem z h)
+value_back_lem (Value.Reads r None) h = reading_back_lem (λ (x : Reading) low high. Value.Reads x None) r 0 0
+value_back_lem (Value.Reads r (Some z)) h =
+    reading_back_lem (λ (x : Reading) low high. Value.Reads x (Some (number_back low high))) r (low_word z) (high_word z)
+    ∙ ap (λ (y : ℤ). Value.Reads r (Some y)) (number_back_lem z h)
 
 -- no value begins as a string does
 no-string : (t : Name) (v : Value) → eqb (word (value_words v) 0) (word (operand_words (Operand.Text t)) 0) ≡ false
 unfolding value_words operand_words
 no-string t (Value.Literal z) = refl
-no-string t (Value.Reads r Delta.Absent) = refl
-no-string t (Value.Reads r (Delta.Is z)) = refl
+no-string t (Value.Reads r None) = refl
+no-string t (Value.Reads r (Some z)) = refl
 
 pub operand_back_lem : (v : Operand) → HeldOperand v →
     let w = word (operand_words v) in

@@ -1,6 +1,5 @@
 pub mod EntryLaws
 pub mod BackLaws
 mod BackPartLaws
-mod PartLaws
-mod RowLaws
+pub mod RowLaws
 mod SignedLaws

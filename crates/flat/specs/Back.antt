@@ -1,7 +1,7 @@
 -- An entry read back from its row of words. A kind or code stands for the form whose words begin with it (Flat.antt, Codes.antt), so that no such number is said
 -- again here. The form's parts are read from the words behind it, and a word that the form does not name is not looked at. What is read from words that no
 -- entry gives plays no part: any entry will do.
-use Rattle.std.specs.Prelude.{ℕ, ◌+◌, ◌*◌, ◌-◌, ◌^◌, List, [], ◌∷◌, get_or, ltb, eqb, ℤ, pos, negsuc}
+use Rattle.std.specs.Prelude.{ℕ, ◌+◌, ◌*◌, ◌-◌, ◌^◌, List, [], ◌∷◌, get_or, ltb, eqb, ℤ, pos, negsuc, Option, Some, None}
 use Rattle.text.specs.Choice.{pick}
 use Rattle.model.specs.declared.Aggregate.{Aggregate}
 use Rattle.model.specs.declared.Comparison.{Comparison}
@@ -9,7 +9,6 @@ use Rattle.model.specs.declared.Condition.{Condition}
 use Rattle.model.specs.declared.Crossing.{Crossing}
 use Rattle.model.specs.declared.Crossing.TheVariants.{Above, Below}
 use Rattle.model.specs.declared.Days.{Days}
-use Rattle.model.specs.declared.Delta.{Delta}
 use Rattle.model.specs.declared.Event.{Event}
 use Rattle.model.specs.declared.EventReading.{EventReading}
 use Rattle.model.specs.declared.GroupReading.{GroupReading}
@@ -20,7 +19,6 @@ use Rattle.model.specs.declared.LampProperty.{LampProperty}
 use Rattle.model.specs.declared.LampReading.{LampReading}
 use Rattle.model.specs.declared.LightTarget.{LightTarget}
 use Rattle.model.specs.declared.Name.{Name}
-use Rattle.model.specs.declared.Number.{Number}
 use Rattle.model.specs.declared.Occupancy.{Occupancy}
 use Rattle.model.specs.declared.Online.{Online}
 use Rattle.model.specs.declared.Operand.{Operand}
@@ -100,8 +98,8 @@ offset_back low = signed_back (2 ^ 31) low
 unfoldable pub number_back : ℕ → ℕ → ℤ
 number_back low high = signed_back (2 ^ 63) (low + 2 ^ 32 * high)
 
-unfoldable pub type_back : ℕ → Number
-type_back n = pick (eqb n no_type) Number.Absent (Number.Is n)
+unfoldable pub type_back : ℕ → Option ℕ
+type_back n = pick (eqb n no_type) None (Some n)
 
 -- the parts of a row, each from its words
 
@@ -187,8 +185,8 @@ unfoldable pub value_back : ℕ → ℕ → ℕ → ℕ → ℕ → ℕ → ℕ 
 value_back n code a b c low high =
     headed value_words n
     (Value.Literal (number_back low high))
-    (Value.Reads (reading_back code a b c) Delta.Absent
-    ∷ Value.Reads (reading_back code a b c) (Delta.Is (number_back low high))
+    (Value.Reads (reading_back code a b c) None
+    ∷ Value.Reads (reading_back code a b c) (Some (number_back low high))
     ∷ [])
 
 -- a string, or a number from the words of a value

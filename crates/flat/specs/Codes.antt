@@ -1,5 +1,5 @@
 -- The numbers that stand for choices in the flat layout, as include/tergyosul.h lists them. Choices count from 1; readings count on from family to family.
-use Rattle.std.specs.Prelude.{ℕ, ◌-◌, ◌%◌, ◌/◌, ◌^◌, ℤ, pos, negsuc}
+use Rattle.std.specs.Prelude.{ℕ, ◌-◌, ◌%◌, ◌/◌, ◌^◌, ℤ, pos, negsuc, Option, Some, None}
 use Rattle.model.specs.declared.Aggregate.{Aggregate}
 use Rattle.model.specs.declared.Comparison.{Comparison}
 use Rattle.model.specs.declared.Crossing.{Crossing}
@@ -8,7 +8,6 @@ use Rattle.model.specs.declared.GroupReading.{GroupReading}
 use Rattle.model.specs.declared.Hcl.{Hcl}
 use Rattle.model.specs.declared.InputReading.{InputReading}
 use Rattle.model.specs.declared.LampReading.{LampReading}
-use Rattle.model.specs.declared.Number.{Number}
 use Rattle.model.specs.declared.Occupancy.{Occupancy}
 use Rattle.model.specs.declared.Online.{Online}
 use Rattle.model.specs.declared.Override.{Override}
@@ -115,6 +114,6 @@ high_word z = twos_complement z / 2 ^ 32
 abbrev pub no_type : ℕ
 no_type = 2 ^ 32 - 1
 
-abbrev pub type_or_none : Number → ℕ
-type_or_none Number.Absent = no_type
-type_or_none (Number.Is n) = n
+abbrev pub type_or_none : Option ℕ → ℕ
+type_or_none None = no_type
+type_or_none (Some n) = n

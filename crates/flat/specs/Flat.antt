@@ -1,7 +1,7 @@
 -- An answer as words, "nine rows of twelve words" (include/tergyosul.h). Row 0 says how the reading went; four rows of triggers and four of conditions
 -- follow. The first word of an entry is its kind. Kinds count from 1 in the order of the Rust's lists PARSED_TRIGGER_KINDS and PARSED_CONDITION_KINDS,
 -- but for DayIn (document 02, §1), which has the number behind the other conditions.
-use Rattle.std.specs.Prelude.{ℕ, ◌+◌, ◌*◌, ◌/◌, List, [], ◌∷◌, ◌++◌, length, get_or, ltb}
+use Rattle.std.specs.Prelude.{ℕ, ◌+◌, ◌*◌, ◌/◌, List, [], ◌∷◌, ◌++◌, length, get_or, ltb, Some, None}
 use Rattle.std.proofs.lemmas.List.Edits.{sets}
 use Rattle.text.specs.Choice.{pick}
 use Rattle.text.specs.Place.{counted}
@@ -11,7 +11,6 @@ use Rattle.model.specs.declared.Condition.{Condition}
 use Rattle.model.specs.declared.ConditionRow.{ConditionRow}
 use Rattle.model.specs.declared.Conditions.{Conditions}
 use Rattle.model.specs.declared.Days.{Days}
-use Rattle.model.specs.declared.Delta.{Delta}
 use Rattle.model.specs.declared.Event.{Event}
 use Rattle.model.specs.declared.InputRef.{InputRef}
 use Rattle.model.specs.declared.LampProperty.{LampProperty}
@@ -86,8 +85,8 @@ reading_words (Reading.Var n) = var_code ∷ n.start ∷ n.length ∷ 0 ∷ []
 -- "kind 1: a number; kind 2: a reading; kind 3: a reading with a number added"
 unfoldable pub value_words : Value → List ℕ
 value_words (Value.Literal z) = 1 ∷ 0 ∷ 0 ∷ 0 ∷ 0 ∷ low_word z ∷ high_word z ∷ []
-value_words (Value.Reads r Delta.Absent) = 2 ∷ reading_words r ++ 0 ∷ 0 ∷ []
-value_words (Value.Reads r (Delta.Is z)) = 3 ∷ reading_words r ++ low_word z ∷ high_word z ∷ []
+value_words (Value.Reads r None) = 2 ∷ reading_words r ++ 0 ∷ 0 ∷ []
+value_words (Value.Reads r (Some z)) = 3 ∷ reading_words r ++ low_word z ∷ high_word z ∷ []
 
 -- "a VALUE, or 4, start, length"
 unfoldable pub operand_words : Operand → List ℕ

@@ -1,10 +1,8 @@
 -- What a row of words can tell (Flat.antt): a type below the number that says that there is none, an offset of 32 signed bits, and a literal or an added
 -- number of 64. Every other part is told whatever it is. Said of the values alone, one line for each case.
-use Rattle.std.specs.Prelude.{ℕ, ◌^◌, ◌<◌, ℤ, pos, negsuc}
+use Rattle.std.specs.Prelude.{ℕ, ◌^◌, ◌<◌, ℤ, pos, negsuc, Option, Some, None}
 use Rattle.model.specs.Ranges.{Free}
 use Rattle.model.specs.declared.Condition.{Condition}
-use Rattle.model.specs.declared.Delta.{Delta}
-use Rattle.model.specs.declared.Number.{Number}
 use Rattle.model.specs.declared.Operand.{Operand}
 use Rattle.model.specs.declared.Selector.{Selector}
 use Rattle.model.specs.declared.TimeBound.{TimeBound}
@@ -17,9 +15,9 @@ unfoldable pub SignedWithin : ℕ → ℤ → Type 0
 SignedWithin most (pos n) = n < most
 SignedWithin most (negsuc n) = n < most
 
-unfoldable pub HeldNumber : Number → Type 0
-HeldNumber Number.Absent = Free
-HeldNumber (Number.Is n) = n < no_type
+unfoldable pub HeldNumber : Option ℕ → Type 0
+HeldNumber None = Free
+HeldNumber (Some n) = n < no_type
 
 unfoldable pub HeldSelector : Selector → Type 0
 HeldSelector (Selector.Instance device instance) = Free
@@ -29,9 +27,9 @@ unfoldable pub HeldBound : TimeBound → Type 0
 HeldBound (TimeBound.Clock m) = Free
 HeldBound (TimeBound.Solar e offset) = SignedWithin (2 ^ 31) offset
 
-unfoldable pub HeldDelta : Delta → Type 0
-HeldDelta Delta.Absent = Free
-HeldDelta (Delta.Is z) = SignedWithin (2 ^ 63) z
+unfoldable pub HeldDelta : Option ℤ → Type 0
+HeldDelta None = Free
+HeldDelta (Some z) = SignedWithin (2 ^ 63) z
 
 unfoldable pub HeldValue : Value → Type 0
 HeldValue (Value.Literal z) = SignedWithin (2 ^ 63) z

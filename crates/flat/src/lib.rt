@@ -7,12 +7,11 @@ mod parts;
 pub mod rows;
 pub mod triggers;
 
-ghost use Rattle.std.specs.Prelude.{◌≡◌, []};
-ghost use Rattle.text.specs.Choice.{pick};
-ghost use Rattle.flat.specs.Flat.{trigger_words, condition_words, whole_row, row_set, head_row, with_triggers, with_conditions, flat};
+ghost use Rattle.std.specs.Prelude.{◌≡◌, [], ◌<◌, ◌≤◌, get_or};
+ghost use Rattle.flat.specs.Flat.{trigger_row, condition_row, head_row, rows_set, flat};
 
-use crate::rows::{ROW_WORDS, Row};
-use model::{Answer, Condition, Conditions, Trigger, Triggers};
+use crate::rows::{ROW_WORDS, Row, row};
+use model::{Answer, Conditions, Triggers};
 use text::place;
 
 // How many rows a list has.
@@ -27,59 +26,50 @@ const ROW_COUNT: usize = FIRST_CONDITION + LIST_ROWS;
 // The length of an answer.
 pub const ANSWER_WORDS: usize = ROW_COUNT * ROW_WORDS;
 
-// Writes the row of a trigger: zeros where it is not in use. One entry is handed over and not the list, which would be copied each time.
-fn put_trigger(out: &mut [u32], row: usize, used: bool, x: Trigger)
-    ensures { out.new ≡ row_set out.old row (whole_row (pick used (trigger_words x) [])) }
+// The row of a list's trigger with an index: zeros where it is not in use.
+#[tactic(auto, unfolding(crate::specs::Flat::trigger_row))]
+fn trigger_row(list: &Triggers, i: usize) -> Row
+    requires { i < 4 }
+    ensures { result ≡ trigger_row list.now i }
 {
-    if used {
-        rows::put_row(out, row, triggers::trigger_row(x));
-        return;
-    }
-    rows::put_row(out, row, [0; ROW_WORDS]);
-}
-
-fn put_triggers(out: &mut [u32], list: Triggers)
-    ensures { out.new ≡ with_triggers out.old list }
-{
-    let mut i: usize = 0;
-    while i < LIST_ROWS {
-        let entry = list.rows[i];
-        let x = entry.trigger;
-        put_trigger(out, FIRST_TRIGGER + i, i < list.count, x);
-        i += 1;
+    if i < list.count {
+        triggers::trigger_row(list.rows[i].trigger)
+    } else {
+        row(&[])
     }
 }
 
-// The same for a condition.
-fn put_condition(out: &mut [u32], row: usize, used: bool, y: Condition)
-    ensures { out.new ≡ row_set out.old row (whole_row (pick used (condition_words y) [])) }
+// The same of a condition.
+#[tactic(auto, unfolding(crate::specs::Flat::condition_row))]
+fn condition_row(list: &Conditions, i: usize) -> Row
+    requires { i < 4 }
+    ensures { result ≡ condition_row list.now i }
 {
-    if used {
-        rows::put_row(out, row, conditions::condition_row(y));
-        return;
+    if i < list.count {
+        conditions::condition_row(list.rows[i].condition)
+    } else {
+        row(&[])
     }
-    rows::put_row(out, row, [0; ROW_WORDS]);
 }
 
-fn put_conditions(out: &mut [u32], list: Conditions)
-    ensures { out.new ≡ with_conditions out.old list }
+// Writes the rows of a list, of which the first has that index.
+fn put_rows(out: &mut [u32], first: usize, rows: [Row; LIST_ROWS])
+    requires { first ≤ 5 }
+    ensures { out.new ≡ rows_set out.old first (λ i. get_or rows i []) }
 {
-    let mut i: usize = 0;
-    while i < LIST_ROWS {
-        let entry = list.rows[i];
-        let y = entry.condition;
-        put_condition(out, FIRST_CONDITION + i, i < list.count, y);
-        i += 1;
+    for i in 0..LIST_ROWS {
+        rows::put_row(out, first + i, rows[i]);
     }
 }
 
 // How the reading went.
-fn head_row(a: Answer) -> Row
-    ensures { result ≡ head_row a }
+#[tactic(auto, unfolding(crate::specs::Flat::head_row))]
+fn head_row(a: &Answer) -> Row
+    ensures { result ≡ head_row a.now }
 {
     let t = place::held(a.triggers.count);
     let c = place::held(a.conditions.count);
-    [a.number, a.line, a.column, a.detail, t, c, 0, 0, 0, 0, 0, 0]
+    row(&[a.number, a.line, a.column, a.detail, t, c])
 }
 
 // Writes an answer. Where there is no room for all of it nothing is written.
@@ -89,7 +79,27 @@ pub fn put_answer(out: &mut [u32], a: Answer)
     if out.len() < ANSWER_WORDS {
         return;
     }
-    rows::put_row(out, 0, head_row(a));
-    put_triggers(out, a.triggers);
-    put_conditions(out, a.conditions);
+    let t = &a.triggers;
+    let c = &a.conditions;
+    rows::put_row(out, 0, head_row(&a));
+    put_rows(
+        out,
+        FIRST_TRIGGER,
+        [
+            trigger_row(t, 0),
+            trigger_row(t, 1),
+            trigger_row(t, 2),
+            trigger_row(t, 3),
+        ],
+    );
+    put_rows(
+        out,
+        FIRST_CONDITION,
+        [
+            condition_row(c, 0),
+            condition_row(c, 1),
+            condition_row(c, 2),
+            condition_row(c, 3),
+        ],
+    );
 }

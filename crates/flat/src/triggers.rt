@@ -1,52 +1,67 @@
 // The rows of triggers (specs/Flat.antt).
 ghost use Rattle.std.specs.Prelude.{◌≡◌};
-ghost use Rattle.model.specs.declared.Trigger.TheVariants.{InputEvent, AtSolar};
+ghost use Rattle.model.specs.declared.Trigger.TheVariants.{InputEvent, HclOverride};
 ghost use Rattle.flat.specs.Flat.{trigger_words, whole_row};
 
-use crate::rows::Row;
-use crate::{codes, parts, rows};
-use model::{Days, Event, Selector, SolarEvent, Trigger};
+use crate::rows::{Row, row};
+use crate::{codes, parts};
+use model::{Event, LightTarget, Override, Selector, Trigger};
 
+#[tactic(auto, unfolding(crate::specs::Flat::trigger_words))]
 fn event_row(s: Selector, e: Event) -> Row
     ensures { result ≡ whole_row (trigger_words (InputEvent s e)) }
 {
-    let f = parts::selector(s);
-    let g = parts::event(e);
-    [1, f.0, f.1, f.2, f.3, g.0, g.1, 0, 0, 0, 0, 0]
+    let [kind, a, b, c] = parts::selector(s);
+    let [code, data] = parts::event(e);
+    row(&[1, kind, a, b, c, code, data])
 }
 
-fn solar_row(e: SolarEvent, ms: i32, days: Days) -> Row
-    ensures { result ≡ whole_row (trigger_words (AtSolar e ms days)) }
+#[tactic(auto, unfolding(crate::specs::Flat::trigger_words))]
+fn override_row(to: LightTarget, o: Override) -> Row
+    ensures { result ≡ whole_row (trigger_words (HclOverride to o)) }
 {
-    let code = codes::solar_event(e);
-    let offset = codes::offset(ms);
-    [8, code, offset, days.sum, 0, 0, 0, 0, 0, 0, 0, 0]
+    let [kind, a, b] = parts::light_target(to);
+    row(&[15, kind, a, b, o as u32])
 }
 
+#[tactic(auto, unfolding(crate::specs::Flat::trigger_words))]
 pub fn trigger_row(x: Trigger) -> Row
     ensures { result ≡ whole_row (trigger_words x) }
 {
     match x {
-        Trigger::InputEvent(s, e) => return event_row(s, e),
-        Trigger::InputOccupancy(r, o) => return rows::of_input(2, r, codes::occupancy(o), 0),
-        Trigger::InputLightCross(r, way, n) => return rows::of_input(3, r, codes::crossing(way), n),
-        Trigger::InputPositionChange(r) => return rows::of_input(4, r, 0, 0),
-        Trigger::InputDevicePowerCycled(r) => return rows::of_ref(5, r, 0, 0),
-        Trigger::InputDeviceManualConfigChanged(r) => return rows::of_ref(6, r, 0, 0),
-        Trigger::AtTime(m, days) => return rows::plain(7, m, days.sum),
-        Trigger::AtSolar(e, ms, days) => return solar_row(e, ms, days),
-        Trigger::Every(ms) => return rows::plain(9, ms, 0),
-        Trigger::LampTurns(r, to) => return rows::of_ref(10, r, codes::power(to), 0),
-        Trigger::LampLevelCross(r, way, n) => return rows::of_ref(11, r, codes::crossing(way), n),
-        Trigger::GroupBecomes(r, a) => return rows::of_ref(12, r, codes::aggregate(a), 0),
-        Trigger::SceneRecalled(adapter, scene) => return rows::plain(13, adapter, scene),
-        Trigger::DeviceOnline(r, o) => return rows::of_ref(14, r, codes::online(o), 0),
-        Trigger::HclOverride(to, o) => return rows::of_target(15, to, codes::override_change(o)),
-        Trigger::TimerFires(n) => return rows::of_name(16, n, 0),
-        Trigger::ControllerStarts => return rows::plain(17, 0, 0),
-        Trigger::ControllerBecomesActive => return rows::plain(18, 0, 0),
-        Trigger::RuleFails(n) => return rows::of_name(19, n, 0),
-        Trigger::HttpTrigger => return rows::plain(20, 0, 0),
-        Trigger::MqttMessage(topic) => return rows::of_name(21, topic, 0),
+        Trigger::InputEvent(s, e) => event_row(s, e),
+        Trigger::InputOccupancy(r, o) => {
+            row(&[2, r.device.adapter, r.device.number, r.instance, o as u32])
+        }
+        Trigger::InputLightCross(r, way, n) => {
+            row(&[
+                3,
+                r.device.adapter,
+                r.device.number,
+                r.instance,
+                way as u32,
+                n,
+            ])
+        }
+        Trigger::InputPositionChange(r) => {
+            row(&[4, r.device.adapter, r.device.number, r.instance])
+        }
+        Trigger::InputDevicePowerCycled(r) => row(&[5, r.adapter, r.number]),
+        Trigger::InputDeviceManualConfigChanged(r) => row(&[6, r.adapter, r.number]),
+        Trigger::AtTime(m, days) => row(&[7, m, days.sum]),
+        Trigger::AtSolar(e, ms, days) => row(&[8, e as u32, codes::offset(ms), days.sum]),
+        Trigger::Every(ms) => row(&[9, ms]),
+        Trigger::LampTurns(r, to) => row(&[10, r.adapter, r.number, to as u32]),
+        Trigger::LampLevelCross(r, way, n) => row(&[11, r.adapter, r.number, way as u32, n]),
+        Trigger::GroupBecomes(r, a) => row(&[12, r.adapter, r.number, a as u32]),
+        Trigger::SceneRecalled(adapter, scene) => row(&[13, adapter, scene]),
+        Trigger::DeviceOnline(r, o) => row(&[14, r.adapter, r.number, o as u32]),
+        Trigger::HclOverride(to, o) => override_row(to, o),
+        Trigger::TimerFires(n) => row(&[16, n.start, n.length]),
+        Trigger::ControllerStarts => row(&[17]),
+        Trigger::ControllerBecomesActive => row(&[18]),
+        Trigger::RuleFails(n) => row(&[19, n.start, n.length]),
+        Trigger::HttpTrigger => row(&[20]),
+        Trigger::MqttMessage(topic) => row(&[21, topic.start, topic.length]),
     }
 }

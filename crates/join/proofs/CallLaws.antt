@@ -1,4 +1,5 @@
 -- The whole call, step by step.
+use Rattle.std.specs.Prelude.{Option, None, Some}
 use Prim.Native.Nat.{ℕ, ◌+◌, ◌≤◌}
 use mathlib.Core.Path.{◌≡◌, ◌∙◌, refl, ap, sym, subst}
 use mathlib.Core.List.{List, [], ◌∷◌, map, map-append}
@@ -19,8 +20,6 @@ use Rattle.model.specs.declared.Answer.{Answer}
 use Rattle.sheet.specs.declared.Call.{Call}
 use Rattle.topics.specs.Topics.{lent_topics}
 use Rattle.topics.specs.Ranges.{range_words, topic_by, lent_with}
-use Rattle.topics.specs.declared.ranges.Topic.{Topic}
-use Rattle.topics.specs.declared.ranges.Topic.TheVariants.{Absent, Is}
 use Rattle.topics.proofs.RangeLaws.{topics_at_lem}
 use Rattle.language.specs.Limits.{most_triggers}
 use Rattle.language.specs.Topics.{topic_name, topic_of, topics_of}
@@ -95,20 +94,20 @@ module _ (first second : List ℕ) (one two : Answer) {b : Bool}
       (j (kept_all first second (kept_all first second [] ones) twos) (m (kept_all first second [] ones) (k [] n)) f.conditions (finished-conditions-are f))
 
 -- the first text's topics
-topic-map : (written : Name → List ℕ) (t : Topic) → map written (names_by t) ≡ topic_by written t
+topic-map : (written : Name → List ℕ) (t : Option Name) → map written (names_by t) ≡ topic_by written t
 unfolding names_by topic_by
-topic-map written Absent = refl
-topic-map written (Is name) = refl
+topic-map written None = refl
+topic-map written (Some name) = refl
 
 topics-map : (written : Name → List ℕ) (xs : List Trigger) → map written (topic_names xs) ≡ topics_of written xs
 unfolding topic_names topics_of topic_of
 topics-map written [] = refl
 topics-map written (x ∷ xs) = map-append written (names_by (topic_name x)) (topic_names xs) ∙ rw (topic-map written (topic_name x), topics-map written xs)
 
-name-few : (t : Topic) → length (names_by t) ≤ 1
+name-few : (t : Option Name) → length (names_by t) ≤ 1
 unfolding names_by
-name-few Absent = omega arith
-name-few (Is name) = omega arith
+name-few None = omega arith
+name-few (Some name) = omega arith
 
 names-few : (xs : List Trigger) → length (topic_names xs) ≤ length xs
 unfolding topic_names

@@ -22,6 +22,7 @@ use Rattle.compare.specs.declared.Entry.{Entry}
 use Rattle.join.specs.Join.{Taken, taken_from, text_of, is_among, kept_with, kept_all, triggers_in, refused_join, accepted_join, by_count}
 use Rattle.join.specs.Kept.{most_kept, kept_of, entry_among, OfKept, OfConditions}
 use Rattle.join.specs.declared.Kept.{Kept}
+use Rattle.join.specs.declared.KeptRow.{KeptRow}
 use Rattle.join.specs.declared.Joined.{Joined}
 use Rattle.join.proofs.RowLaws.{in_use-on, padded-at, padded-more}
 
@@ -29,11 +30,11 @@ abbrev no_taken : Taken
 no_taken = record { from = 0; trigger = HttpTrigger }
 
 -- a kept trigger as the code's row of it
-abbrev row_of : Taken → TriggerRow
-row_of t = record { trigger = t.trigger }
+abbrev row_of : Taken → KeptRow
+row_of t = record { from = t.from; trigger = t.trigger }
 
-abbrev no_row : TriggerRow
-no_row = record { trigger = HttpTrigger }
+abbrev no_row : KeptRow
+no_row = record { from = 0; trigger = HttpTrigger }
 
 kept-count : {kept : Kept} (l : List Taken) → kept ≡ kept_of l → kept.count ≡ length l
 unfolding kept_of
@@ -48,25 +49,18 @@ module _ (first second text : List ℕ) (x : Entry) (kept : Kept) where
   left-all l e = refl
 
   module _ (i : ℕ) (g : Left i) (few : kept.count ≤ most_kept) where
-    module _ (below : i < kept.count) {r : Bool}
-        (said : r ≡ same_entry (text_of first second (get_or kept.from i 0)) text (trigger_entry (get_or kept.rows i no_trigger).trigger) x) where
-      at_row : (l : List Taken) → kept ≡ kept_of l → (get_or kept.rows i no_trigger).trigger ≡ (get_or l i no_taken).trigger
+    module _ (below : i < kept.count) (unused : KeptRow) {r : Bool}
+        (said : r ≡ same_entry (text_of first second (get_or kept.rows i unused).from) text (trigger_entry (get_or kept.rows i unused).trigger) x) where
+      at_row : (l : List Taken) → kept ≡ kept_of l → get_or kept.rows i unused ≡ row_of (get_or l i no_taken)
       unfolding kept_of
       at_row l e =
           rw e
-          (ap (λ (t : TriggerRow). t.trigger)
-          (padded-at row_of no_row most_kept l i no_taken no_trigger
-          (omega (arith, kept-count l e)) (omega (arith, kept-count l e))))
-
-      at_from : (l : List Taken) → kept ≡ kept_of l → get_or kept.from i 0 ≡ (get_or l i no_taken).from
-      unfolding kept_of
-      at_from l e =
-          rw e
-          (padded-at (λ (t : Taken). t.from) 0 most_kept l i no_taken 0 (omega (arith, kept-count l e)) (omega (arith, kept-count l e)))
+          (padded-at row_of no_row most_kept l i no_taken unused
+          (omega (arith, kept-count l e)) (omega (arith, kept-count l e)))
 
       step : (l : List Taken) → kept ≡ kept_of l → entry_among first second text x (drop i l) ≡ pick r true (entry_among first second text x (drop (i + 1) l))
       unfolding entry_among
-      step l e = rw (drop-cons l i no_taken (omega (arith, kept-count l e)), add-one, said, at_row l e, at_from l e)
+      step l e = rw (drop-cons l i no_taken (omega (arith, kept-count l e)), add-one, said, at_row l e)
 
       pub left-yes : r ≡ true → OfKept kept (λ l. true ≡ entry_among first second text x l)
       left-yes h l e = sym (step l e ∙ rw h) ∙ g l e
@@ -100,7 +94,7 @@ module _ (first second text : List ℕ) (from : ℕ) (x : Trigger) (its : text_o
   keep_old h l e = rw (among l e, h) e
 
   pub keep-new : r ≡ false → kept.count < most_kept → {more : Kept} →
-      more ≡ record { rows = set kept.rows kept.count (record { trigger = x }); from = set kept.from kept.count from; count = kept.count + 1 } →
+      more ≡ record { rows = set kept.rows kept.count (record { from = from; trigger = x }); count = kept.count + 1 } →
       OfKept kept (λ l. more ≡ kept_of (kept_with first second l taken))
   unfolding kept_with kept_of
   keep-new h room m l e =
@@ -112,7 +106,6 @@ module _ (first second text : List ℕ) (from : ℕ) (x : Trigger) (its : text_o
         n,
         e,
         padded-more row_of no_row most_kept l taken (omega arith),
-        padded-more (λ (t : Taken). t.from) 0 most_kept l taken (omega arith),
         length-append,
       )
 
@@ -158,39 +151,43 @@ module _ (first second : List ℕ) (kept : Kept) (from : ℕ) (list : Triggers) 
 
 -- the answer with four of them
 module _ (kept : Kept) (conditions : Conditions) where
-  pub counted-many : most_triggers < kept.count → {r : Joined} → r ≡ refused_join 0 (refused_with 52 0 0 0) →
+  pub counted_many : most_triggers < kept.count → {r : Joined} → r ≡ refused_join 0 (refused_with 52 0 0 0) →
       OfKept kept (λ l. OfConditions conditions (λ ys. r ≡ by_count l ys))
   unfolding by_count
-  counted-many h m l e ys c = rw (lt-ltb most_triggers (length l) (omega (arith, kept-count l e))) m
+  counted_many h m l e ys c = rw (lt-ltb most_triggers (length l) (omega (arith, kept-count l e))) m
 
-four-rows : (l : List Taken) → length l ≤ most_triggers →
-    get_or (kept_of l).rows 0 no_trigger ∷ get_or (kept_of l).rows 1 no_trigger ∷ get_or (kept_of l).rows 2 no_trigger ∷ get_or (kept_of l).rows 3 no_trigger ∷ []
-    ≡ (triggers_of (map (λ (x : Taken). x.trigger) l)).rows
-unfolding kept_of triggers_of padded
-four-rows [] h = refl
-four-rows (a ∷ []) h = refl
-four-rows (a ∷ b ∷ []) h = refl
-four-rows (a ∷ b ∷ c ∷ []) h = refl
-four-rows (a ∷ b ∷ c ∷ d ∷ []) h = refl
-four-rows (a ∷ b ∷ c ∷ d ∷ e ∷ l) h = absurd (omega arith)
+module _ (u : KeptRow) where
+  abbrev row : List Taken → ℕ → KeptRow
+  row l i = get_or (kept_of l).rows i u
 
-four-from : (l : List Taken) → length l ≤ most_triggers →
-    get_or (kept_of l).from 0 0 ∷ get_or (kept_of l).from 1 0 ∷ get_or (kept_of l).from 2 0 ∷ get_or (kept_of l).from 3 0 ∷ []
-    ≡ padded (λ (x : Taken). x.from) 0 most_triggers l
-unfolding kept_of padded
-four-from [] h = refl
-four-from (a ∷ []) h = refl
-four-from (a ∷ b ∷ []) h = refl
-four-from (a ∷ b ∷ c ∷ []) h = refl
-four-from (a ∷ b ∷ c ∷ d ∷ []) h = refl
-four-from (a ∷ b ∷ c ∷ d ∷ e ∷ l) h = absurd (omega arith)
+  four-rows : (l : List Taken) → length l ≤ most_triggers →
+      record { trigger = (row l 0).trigger } ∷ record { trigger = (row l 1).trigger } ∷ record { trigger = (row l 2).trigger } ∷ record { trigger = (row l 3).trigger } ∷ []
+      ≡ (triggers_of (map (λ (x : Taken). x.trigger) l)).rows
+  unfolding kept_of triggers_of padded
+  four-rows [] h = refl
+  four-rows (a ∷ []) h = refl
+  four-rows (a ∷ b ∷ []) h = refl
+  four-rows (a ∷ b ∷ c ∷ []) h = refl
+  four-rows (a ∷ b ∷ c ∷ d ∷ []) h = refl
+  four-rows (a ∷ b ∷ c ∷ d ∷ e ∷ l) h = absurd (omega arith)
+
+  four-from : (l : List Taken) → length l ≤ most_triggers →
+      (row l 0).from ∷ (row l 1).from ∷ (row l 2).from ∷ (row l 3).from ∷ []
+      ≡ padded (λ (x : Taken). x.from) 0 most_triggers l
+  unfolding kept_of padded
+  four-from [] h = refl
+  four-from (a ∷ []) h = refl
+  four-from (a ∷ b ∷ []) h = refl
+  four-from (a ∷ b ∷ c ∷ []) h = refl
+  four-from (a ∷ b ∷ c ∷ d ∷ []) h = refl
+  four-from (a ∷ b ∷ c ∷ d ∷ e ∷ l) h = absurd (omega arith)
 
 map-long : (l : List Taken) → length (map (λ (x : Taken). x.trigger) l) ≡ length l
 map-long [] = refl
 map-long (x ∷ l) = ap suc (map-long l)
 
 module _ (kept : Kept) (conditions : Conditions) where
-  pub counted-few : kept.count ≤ most_triggers → {r : Joined} →
+  pub counted_few : (u : KeptRow) → kept.count ≤ most_triggers → {r : Joined} →
       r ≡ record {
         which = 0;
         answer = record {
@@ -199,16 +196,17 @@ module _ (kept : Kept) (conditions : Conditions) where
           column = 0;
           detail = 0;
           triggers = record {
-            rows = get_or kept.rows 0 no_trigger ∷ get_or kept.rows 1 no_trigger ∷ get_or kept.rows 2 no_trigger ∷ get_or kept.rows 3 no_trigger ∷ [];
+            rows = record { trigger = (get_or kept.rows 0 u).trigger } ∷ record { trigger = (get_or kept.rows 1 u).trigger }
+                ∷ record { trigger = (get_or kept.rows 2 u).trigger } ∷ record { trigger = (get_or kept.rows 3 u).trigger } ∷ [];
             count = kept.count;
           };
           conditions = conditions;
         };
-        from = get_or kept.from 0 0 ∷ get_or kept.from 1 0 ∷ get_or kept.from 2 0 ∷ get_or kept.from 3 0 ∷ [];
+        from = (get_or kept.rows 0 u).from ∷ (get_or kept.rows 1 u).from ∷ (get_or kept.rows 2 u).from ∷ (get_or kept.rows 3 u).from ∷ [];
       } →
       OfKept kept (λ l. OfConditions conditions (λ ys. r ≡ by_count l ys))
   unfolding by_count accepted_join accepted_with triggers_of
-  counted-few h m l e ys c =
+  counted_few u h m l e ys c =
       let few : length l ≤ most_triggers = omega (arith, kept-count l e) in
       rw (le-ltb most_triggers (length l) few)
-      (m ∙ rw (kept-count l e, e, c, four-rows l few, four-from l few, map-long l))
+      (m ∙ rw (kept-count l e, e, c, four-rows u l few, four-from u l few, map-long l))

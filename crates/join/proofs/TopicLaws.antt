@@ -1,4 +1,5 @@
 -- The ranges of a text's topics, as the code holds them.
+use Rattle.std.specs.Prelude.{Option, None, Some}
 use Prim.Native.Nat.{ℕ, ◌+◌, ◌<◌, ◌≤◌}
 use mathlib.Core.Path.{◌≡◌, ◌∙◌, refl, ap, sym}
 use mathlib.Core.List.{List, [], ◌∷◌, ◌++◌, map, append-nil, append_assoc}
@@ -10,8 +11,6 @@ use Rattle.model.specs.declared.Trigger.{Trigger}
 use Rattle.model.specs.declared.TriggerRow.{TriggerRow}
 use Rattle.model.specs.declared.Triggers.{Triggers}
 use Rattle.topics.specs.Ranges.{range_words}
-use Rattle.topics.specs.declared.ranges.Topic.{Topic}
-use Rattle.topics.specs.declared.ranges.Topic.TheVariants.{Absent, Is}
 use Rattle.language.specs.Topics.{topic_name}
 use Rattle.flat.specs.Flat.{no_trigger}
 use Rattle.join.specs.Join.{triggers_in}
@@ -24,16 +23,16 @@ unfolding range_words
 words_more [] n = refl
 words_more (m ∷ names) n = ap (λ (l : List ℕ). m.start ∷ m.length ∷ l) (words_more names n)
 
-module _ (topics : Topics) (topic : Topic) where
-  pub topic-none : topic ≡ Absent → OfTopics topics (λ names. topics ≡ topics_held (names ++ names_by topic))
+module _ (topics : Topics) (topic : Option Name) where
+  pub topic_none : topic ≡ None → OfTopics topics (λ names. topics ≡ topics_held (names ++ names_by topic))
   unfolding names_by
-  topic-none a names e = rw (a, append-nil) e
+  topic_none a names e = rw (a, append-nil) e
 
-  pub topic-more : {name : Name} → topic ≡ Is name → topics.count + 2 ≤ most_kept → {more : Topics} →
+  pub topic_more : {name : Name} → topic ≡ Some name → topics.count + 2 ≤ most_kept → {more : Topics} →
       more ≡ record { words = set (set topics.words topics.count name.start) (topics.count + 1) name.length; count = topics.count + 2 } →
       OfTopics topics (λ names. more ≡ topics_held (names ++ names_by topic))
   unfolding names_by topics_held
-  topic-more {name} a room m names e =
+  topic_more {name} a room m names e =
       let n : topics.count ≡ length (range_words names) = ap (λ (t : Topics). t.count) e in
       let id : ℕ → ℕ = λ k. k in
       let front = range_words names ++ name.start ∷ [] in
@@ -58,7 +57,7 @@ module _ (list : Triggers) where
   unfolding topics_held topic_names range_words padded
   gathered_none e = e
 
-  pub gathered-on : {topics : Topics} (i : ℕ) → Gathered topics i → i < length list.rows → {topic : Topic} →
+  pub gathered-on : {topics : Topics} (i : ℕ) → Gathered topics i → i < length list.rows → {topic : Option Name} →
       topic ≡ topic_name (get_or list.rows i no_trigger).trigger → {next : Topics} → OfTopics topics (λ names. next ≡ topics_held (names ++ names_by topic)) →
       Gathered next (i + 1)
   gathered-on i g h t s =

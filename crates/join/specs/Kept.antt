@@ -1,5 +1,5 @@
 -- The code's way to keep triggers: eight rows, more than two texts have. Nothing here need be believed.
-use Rattle.std.specs.Prelude.{ℕ, ◌≤◌, ◌≡◌, List, [], ◌∷◌, ◌++◌, Bool, true, false, length}
+use Rattle.std.specs.Prelude.{ℕ, ◌≤◌, ◌≡◌, List, [], ◌∷◌, ◌++◌, Bool, true, false, length, Option, None, Some}
 use Rattle.text.specs.Choice.{pick}
 use Rattle.model.specs.Lists.{padded, conditions_of, accepted_with}
 use Rattle.model.specs.declared.Condition.{Condition}
@@ -9,8 +9,6 @@ use Rattle.language.specs.Limits.{most_triggers}
 use Rattle.model.specs.declared.Trigger.{Trigger}
 use Rattle.model.specs.declared.Trigger.TheVariants.{HttpTrigger}
 use Rattle.topics.specs.Ranges.{range_words}
-use Rattle.topics.specs.declared.ranges.Topic.{Topic}
-use Rattle.topics.specs.declared.ranges.Topic.TheVariants.{Absent, Is}
 use Rattle.model.specs.declared.Name.{Name}
 use Rattle.language.specs.Topics.{topic_name}
 use Rattle.compare.specs.Compare.{trigger_entry, same_entry}
@@ -26,8 +24,7 @@ most_kept = 8
 unfoldable pub kept_of : List Taken → Kept
 kept_of kept =
     record {
-      rows = padded (λ (x : Taken). record { trigger = x.trigger }) (record { trigger = HttpTrigger }) most_kept kept;
-      from = padded (λ (x : Taken). x.from) 0 most_kept kept;
+      rows = padded (λ (x : Taken). record { from = x.from; trigger = x.trigger }) (record { from = 0; trigger = HttpTrigger }) most_kept kept;
       count = length kept;
     }
 
@@ -38,9 +35,9 @@ entry_among first second text x (y ∷ ys) =
     pick (same_entry (text_of first second y.from) text (trigger_entry y.trigger) x) true (entry_among first second text x ys)
 
 -- the names of the topics of triggers, and their ranges as the code holds them
-unfoldable pub names_by : Topic → List Name
-names_by Absent = []
-names_by (Is name) = name ∷ []
+unfoldable pub names_by : Option Name → List Name
+names_by None = []
+names_by (Some name) = name ∷ []
 
 unfoldable pub topic_names : List Trigger → List Name
 topic_names [] = []

@@ -11,9 +11,8 @@ ghost use Rattle.join.specs.Joining.{ExactJoin};
 ghost use Rattle.join.specs.Kept.{most_kept, kept_of, entry_among, names_by, topic_names, topics_held, OfKept, OfTopics, OfConditions, Few, Finished};
 
 use compare::Entry;
-use model::{Answer, Conditions, Trigger, TriggerRow, Triggers};
+use model::{Answer, Conditions, Name, Trigger, TriggerRow, Triggers};
 use sheet::{Call, Habit};
-use topics::ranges::Topic;
 
 // How many triggers two texts have at most, and how many words the ranges of a text's topics are.
 const MOST_KEPT: usize = 8;
@@ -21,50 +20,54 @@ const MOST_KEPT: usize = 8;
 const MOST_TRIGGERS: usize = 4;
 
 // The answer of joining. `which` is the text that is refused, 1 or 2, or 0 for neither. The names of an accepted trigger stand in the text that `from` gives in its place, 1 or 2;
-// those of the conditions stand in the first text.
+// those of the conditions stand in the first text. Numbers say which, as include/tergyosul.h has it for C.
 #[derive(Clone, Copy)]
 pub struct Joined {
     pub which: u32,
     pub answer: Answer,
-    pub from: [u32; 4],
+    pub from: [u32; MOST_TRIGGERS],
 }
 
-// The triggers that are kept so far, and the text of each.
+// A trigger, and the text in which its names stand, 1 or 2.
+#[derive(Clone, Copy)]
+pub struct KeptRow {
+    pub from: u32,
+    pub trigger: Trigger,
+}
+
+// The triggers that are kept so far: the first `count` rows are in use. An array with a count beside it: joining puts nothing on the heap.
 #[derive(Clone, Copy)]
 pub struct Kept {
-    pub rows: [TriggerRow; 8],
-    pub from: [u32; 8],
+    pub rows: [KeptRow; MOST_KEPT],
     pub count: usize,
 }
 
-// The ranges of a text's topics, a start and a length for each; the first `count` words are in use.
+// The ranges of a text's topics, a start and a length for each; the first `count` words are in use, in an array as above.
 #[derive(Clone, Copy)]
 pub struct Topics {
-    pub words: [u32; 8],
+    pub words: [u32; MOST_KEPT],
     pub count: usize,
 }
 
+#[tactic(auto, unfolding(crate::specs::Kept::kept_of, model::specs::Lists::padded))]
 fn none_kept() -> Kept
     ensures { result ≡ kept_of [] }
 {
     Kept {
-        rows: [TriggerRow {
+        rows: [KeptRow {
+            from: 0,
             trigger: Trigger::HttpTrigger,
-        }; 8],
-        from: [0; 8],
+        }; MOST_KEPT],
         count: 0,
     }
 }
 
 // Is a kept trigger the same as an entry whose names stand in text?
-fn is_same(first: &[u8], second: &[u8], from: u32, y: Trigger, text: &[u8], x: Entry) -> bool
-    ensures { result ≡ same_entry (text_of first.now second.now from) text.now (trigger_entry y) x }
+fn is_same(first: &[u8], second: &[u8], y: KeptRow, text: &[u8], x: Entry) -> bool
+    ensures { result ≡ same_entry (text_of first.now second.now y.from) text.now (trigger_entry y.trigger) x }
 {
-    let e = compare::trigger_entry(y);
-    if from == 1 {
-        return compare::same_entry(first, e, text, x);
-    }
-    compare::same_entry(second, e, text, x)
+    let own = if y.from == 1 { first } else { second };
+    compare::same_entry(own, compare::trigger_entry(y.trigger), text, x)
 }
 
 // Is an entry whose names stand in text among the kept triggers?
@@ -72,15 +75,10 @@ fn is_kept(first: &[u8], second: &[u8], kept: Kept, text: &[u8], x: Entry) -> bo
     requires { kept.count ≤ most_kept }
     ensures { OfKept kept (λ l. result ≡ entry_among first.now second.now text.now x l) }
 {
-    let mut i: usize = 0;
-    while i < kept.count {
-        let row = kept.rows[i];
-        let y = row.trigger;
-        let from = kept.from[i];
-        if is_same(first, second, from, y, text, x) {
+    for i in 0..kept.count {
+        if is_same(first, second, kept.rows[i], text, x) {
             return true;
         }
-        i += 1;
     }
     false
 }
@@ -97,8 +95,7 @@ fn keep(first: &[u8], second: &[u8], kept: Kept, from: u32, text: &[u8], x: Trig
     }
     let at = kept.count;
     let mut more = kept;
-    more.rows[at] = TriggerRow { trigger: x };
-    more.from[at] = from;
+    more.rows[at] = KeptRow { from, trigger: x };
     more.count = at + 1;
     more
 }
@@ -110,12 +107,8 @@ fn keep_all(first: &[u8], second: &[u8], kept: Kept, from: u32, text: &[u8], lis
     ensures count_bound { result.count ≤ kept.count + list.count }
 {
     let mut more = kept;
-    let mut i: usize = 0;
-    while i < list.count {
-        let row = list.rows[i];
-        let x = row.trigger;
-        more = keep(first, second, more, from, text, x);
-        i += 1;
+    for i in 0..list.count {
+        more = keep(first, second, more, from, text, list.rows[i].trigger);
     }
     more
 }
@@ -128,29 +121,24 @@ fn same_conditions(first: &[u8], xs: Conditions, second: &[u8], ys: Conditions) 
     if xs.count != ys.count {
         return false;
     }
-    let mut i: usize = 0;
-    while i < xs.count {
-        let row = xs.rows[i];
-        let x = row.condition;
-        let other = ys.rows[i];
-        let y = other.condition;
-        if !compare::same_condition(first, x, second, y) {
+    for i in 0..xs.count {
+        if !compare::same_condition(first, xs.rows[i].condition, second, ys.rows[i].condition) {
             return false;
         }
-        i += 1;
     }
     true
 }
 
 // The ranges with that of one topic more, if there is one.
-fn with_topic(topics: Topics, topic: Topic) -> Topics
+#[tactic(auto, using(crate::proofs::TopicLaws::topic_none))]
+fn with_topic(topics: Topics, topic: Option<Name>) -> Topics
     requires { topics.count + 2 ≤ most_kept }
     ensures of_topics { OfTopics topics (λ names. result ≡ topics_held (names ++ names_by topic)) }
     ensures count_bound { result.count ≤ topics.count + 2 }
 {
     match topic {
-        Topic::Absent => topics,
-        Topic::Is(name) => {
+        None => topics,
+        Some(name) => {
             let at = topics.count;
             let mut more = topics;
             more.words[at] = name.start;
@@ -168,56 +156,48 @@ fn topics_of(list: Triggers) -> Topics
     ensures count_le_most_kept { result.count ≤ most_kept }
 {
     let mut topics = Topics {
-        words: [0; 8],
+        words: [0; MOST_KEPT],
         count: 0,
     };
-    let mut i: usize = 0;
-    while i < list.count {
-        let row = list.rows[i];
-        let x = row.trigger;
-        topics = with_topic(topics, reader::section::topic_of(x));
-        i += 1;
+    for i in 0..list.count {
+        topics = with_topic(topics, reader::section::topic_of(list.rows[i].trigger));
     }
     topics
 }
 
 // A refusal, with the text that is refused.
+#[tactic(auto, unfolding(crate::specs::Join::refused_join, model::specs::Lists::padded))]
 fn refused(which: u32, answer: Answer) -> Joined
     ensures { result ≡ refused_join which answer }
 {
     Joined {
         which,
         answer,
-        from: [0; 4],
+        from: [0; MOST_TRIGGERS],
     }
 }
 
 // A refusal of both texts together, at 0:0.
+#[tactic(auto, unfolding(crate::specs::Join::refused_join))]
 fn refused_both(number: u32) -> Joined
     ensures { result ≡ refused_join 0 (refused_with number 0 0 0) }
 {
-    refused(
-        0,
-        Answer {
-            number,
-            line: 0,
-            column: 0,
-            detail: 0,
-            triggers: model::no_triggers(),
-            conditions: model::no_conditions(),
-        },
-    )
+    refused(0, model::refused(number, 0, 0, 0))
 }
 
 // The answer with the kept triggers and these conditions, unless the triggers are too many.
+#[tactic(auto, using(crate::proofs::KeptLaws::counted_many, crate::proofs::KeptLaws::counted_few))]
 fn counted(kept: Kept, conditions: Conditions) -> Joined
     ensures { OfKept kept (λ l. OfConditions conditions (λ ys. result ≡ by_count l ys)) }
 {
     if MOST_TRIGGERS < kept.count {
         return refused_both(52);
     }
+    let row = |i: usize| TriggerRow {
+        trigger: kept.rows[i].trigger,
+    };
     let triggers = Triggers {
-        rows: [kept.rows[0], kept.rows[1], kept.rows[2], kept.rows[3]],
+        rows: [row(0), row(1), row(2), row(3)],
         count: kept.count,
     };
     let answer = Answer {
@@ -231,7 +211,12 @@ fn counted(kept: Kept, conditions: Conditions) -> Joined
     Joined {
         which: 0,
         answer,
-        from: [kept.from[0], kept.from[1], kept.from[2], kept.from[3]],
+        from: [
+            kept.rows[0].from,
+            kept.rows[1].from,
+            kept.rows[2].from,
+            kept.rows[3].from,
+        ],
     }
 }
 
@@ -240,16 +225,12 @@ fn both_read(first: &[u8], one: Answer, second: &[u8], two: Answer) -> Joined
     requires { Finished one × Finished two }
     ensures { result ≡ both_read first.now second.now one two }
 {
-    let ys = one.conditions;
-    let vs = two.conditions;
-    if !same_conditions(first, ys, second, vs) {
+    if !same_conditions(first, one.conditions, second, two.conditions) {
         return refused_both(51);
     }
-    let xs = one.triggers;
-    let us = two.triggers;
-    let kept = keep_all(first, second, none_kept(), 1, first, xs);
-    let more = keep_all(first, second, kept, 2, second, us);
-    counted(more, ys)
+    let kept = keep_all(first, second, none_kept(), 1, first, one.triggers);
+    let more = keep_all(first, second, kept, 2, second, two.triggers);
+    counted(more, one.conditions)
 }
 
 // Reads two rule texts with one name sheet and the lent topics of earlier rules, for a party, with its own primary adapter, and joins them. Each text has words of its own for the tokens' records. The answer, and
@@ -274,10 +255,7 @@ pub fn join(
     if one.number != 0 {
         return refused(1, one);
     }
-    let xs = one.triggers;
-    let topics = topics_of(xs);
-    let ranges = topics.words;
-    let count = topics.count;
+    let topics = topics_of(one.triggers);
     let two = reader::read::read_after(
         Call {
             habit: Habit::Rule,
@@ -288,7 +266,7 @@ pub fn join(
         sheet,
         lent,
         first,
-        &ranges[..count],
+        &topics.words[..topics.count],
         others,
     );
     if two.number != 0 {

@@ -1,5 +1,6 @@
 -- The questions that are put before the parser's are answered alike whatever a call sees: one of them refuses the call, or all are met and the rule is
 -- parsed.
+use Rattle.std.specs.Prelude.{Result, Ok, Err}
 use Prim.Native.Nat.{ℕ, ◌≤◌}
 use native.Mathlib.Omega.{arith}
 use mathlib.Core.Path.{◌≡◌, refl, ap}
@@ -13,8 +14,7 @@ use Rattle.text.specs.Rfc3629.{Utf8Octets}
 use Rattle.text.specs.Utf8.{Character}
 use Rattle.text.specs.Place.{check_of, Judged, well_formed as judged_well}
 use Rattle.text.proofs.PlaceRules.{judged}
-use Rattle.text.specs.declared.place.Checked.{Checked}
-use Rattle.text.specs.declared.place.Checked.TheVariants.{WellFormed, IllFormed}
+use Rattle.text.specs.declared.place.IllFormed.{IllFormed}
 use Rattle.tokens.specs.declared.record.Record.{Record}
 use Rattle.tokens.specs.Lexing.{Lexing, token, most_tokens, most_bytes, least_words}
 use Rattle.tokens.specs.Lex.{lex_text, written_from}
@@ -102,10 +102,10 @@ module _ (call : Call) (text sheet : List ℕ) (lent : List (List ℕ)) (words :
         own_asked octets false e = before (λ view. refl) (λ z. omega arith)
         own_asked octets true e = lexed_asked octets e (lexed lent (laid text))
 
-        text_asked : (c : Checked) → Judged text c → Asked (λ view. by_text text view lent words (own_primary call sheet) c)
+        text_asked : (c : Result Unit IllFormed) → Judged text c → Asked (λ view. by_text text view lent words (own_primary call sheet) c)
         unfolding by_text refused_with
-        text_asked (IllFormed line column) j = before (λ view. refl) (λ z. omega arith)
-        text_asked WellFormed (judged_well octets) = own_asked octets (own_primary call sheet) refl
+        text_asked (Err at) j = before (λ view. refl) (λ z. omega arith)
+        text_asked (Ok _) (judged_well octets) = own_asked octets (own_primary call sheet) refl
 
       sheet_asked : (x : Sheet) → sheet_check sheet ≡ x → Asked (λ view. by_sheet text view lent words (own_primary call sheet) x)
       unfolding by_sheet refused_with

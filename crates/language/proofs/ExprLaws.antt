@@ -1,4 +1,5 @@
 -- Readings and VALUE: what is answered is a reading, and a reading is what is answered.
+use Rattle.std.specs.Prelude.{Some}
 use Prim.Native.Nat.{ℕ, ◌+◌}
 use mathlib.Core.Path.{◌≡◌, refl, ◌∙◌}
 use mathlib.Core.Bool.{true, false}
@@ -28,7 +29,6 @@ use Rattle.model.specs.declared.TimeReading.{TimeReading}
 use Rattle.model.specs.declared.SunReading.{SunReading}
 use Rattle.model.specs.declared.EventReading.{EventReading}
 use Rattle.model.specs.declared.Reading.{Reading}
-use Rattle.model.specs.declared.Delta.{Delta}
 use Rattle.model.specs.declared.Value.{Value}
 use Rattle.model.specs.declared.Value.TheVariants.{Literal, Reads}
 use Rattle.language.specs.Words.{signed}
@@ -135,7 +135,7 @@ module _ (t : ℕ → Tok) (view : View) (range : ℕ → Name) where
   delta-sound : {i j : ℕ} (r : Reading) → ReadingOf t view range i r j → Okay (ValueOf t view range i) (with_delta t r j)
   unfolding with_delta delta_at
   delta-sound {i} {j} r h =
-      signed-sound t (ValueOf t view range i) (λ (z : ℤ). Reads r (Delta.Is z)) j _ (λ z k s. reading_with h s) (reading h)
+      signed-sound t (ValueOf t view range i) (λ (z : ℤ). Reads r (Some z)) j _ (λ z k s. reading_with h s) (reading h)
 
   -- what is answered as a VALUE is one, whatever the fuel
   pub value-sound : (fuel i : ℕ) → Okay (ValueOf t view range i) (value_at t view range fuel i)
@@ -263,7 +263,7 @@ value-complete {t} {i = i} end u (number (token p)) =
     rw (kind-no t 21 i (not-kind t 21 refl p), kind-no t 22 i (not-kind t 22 refl p), kind-yes t refl p, kind-complete t refl (token p))
 value-complete end u (signed_number s) = signed-complete Literal _ s
 value-complete {t} {j = j} end u (reading h) = rw (read-complete end h, kind-no t 21 j u.no_plus, kind-no t 22 j u.no_minus)
-value-complete end u (reading_with {v = r} h s) = read-complete end h ∙ signed-complete (λ (z : ℤ). Reads r (Delta.Is z)) _ s
+value-complete end u (reading_with {v = r} h s) = read-complete end h ∙ signed-complete (λ (z : ℤ). Reads r (Some z)) _ s
 
 -- a string literal is not a VALUE
 pub value-no-string : {t : ℕ → Tok} {view : View} {range : ℕ → Name} {i j : ℕ} {v : Value} → ValueOf t view range i v j →

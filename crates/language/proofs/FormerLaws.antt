@@ -1,5 +1,6 @@
 -- Document 02, §5: "for buffers of 6,144 words or more every place reported is the same as before". A call answers alike in all buffers that are
 -- long enough, and in those that were long enough before as it did with records of six words (Rattle.tokens.proofs.FormerLaws).
+use Rattle.std.specs.Prelude.{Result, Ok, Err}
 use Prim.Native.Nat.{ℕ, ◌+◌, ◌≤◌}
 use mathlib.Core.Path.{◌≡◌, refl, ap, fun_ext}
 use mathlib.Core.Bool.{Bool, true, false}
@@ -10,8 +11,7 @@ use borrow.Author.Tests.{le-ltb, ltb-false}
 use Rattle.text.specs.Choice.{pick}
 use Rattle.text.specs.Part.{part_of}
 use Rattle.text.specs.Place.{check_of}
-use Rattle.text.specs.declared.place.Checked.{Checked}
-use Rattle.text.specs.declared.place.Checked.TheVariants.{WellFormed, IllFormed}
+use Rattle.text.specs.declared.place.IllFormed.{IllFormed}
 use Rattle.tokens.specs.Result.{Res}
 use Rattle.tokens.specs.Record.{bytes_at}
 use Rattle.tokens.specs.Cursor.{Tok, bytes_of, tokens}
@@ -42,10 +42,10 @@ module _ (call : Call) (text sheet : List ℕ) (lent : List (List ℕ)) (words o
   same-own true = refl
   same-own false = refl
 
-  same_text : (c : Checked) → (by_text text (seen call sheet) lent words own c).answer ≡ (by_text text (seen call sheet) lent other own c).answer
+  same_text : (c : Result Unit IllFormed) → (by_text text (seen call sheet) lent words own c).answer ≡ (by_text text (seen call sheet) lent other own c).answer
   unfolding by_text
-  same_text WellFormed = same-own own
-  same_text (IllFormed line column) = refl
+  same_text (Ok _) = same-own own
+  same_text (Err at) = refl
 
   same-sheet : (x : Sheet) → (by_sheet text (seen call sheet) lent words own x).answer ≡ (by_sheet text (seen call sheet) lent other own x).answer
   unfolding by_sheet
@@ -88,9 +88,9 @@ unfoldable pub former_by_primary : List ℕ → View → List (List ℕ) → Boo
 former_by_primary text view lent true = former_lexed_from text view lent (lex_text text) (lex_text text)
 former_by_primary text view lent false = refused_with 53 0 0 0
 
-unfoldable pub former_by_text : List ℕ → View → List (List ℕ) → Bool → Checked → Answer
-former_by_text text view lent own WellFormed = former_by_primary text view lent own
-former_by_text text view lent own (IllFormed line column) = refused_with 4 line column 0
+unfoldable pub former_by_text : List ℕ → View → List (List ℕ) → Bool → Result Unit IllFormed → Answer
+former_by_text text view lent own (Ok _) = former_by_primary text view lent own
+former_by_text text view lent own (Err at) = refused_with 4 at.line at.column 0
 
 unfoldable pub former_by_sheet : List ℕ → View → List (List ℕ) → Bool → Sheet → Answer
 former_by_sheet text view lent own well_formed = former_by_text text view lent own (check_of text)
@@ -125,10 +125,10 @@ module _ (text : List ℕ) (view : View) (lent : List (List ℕ)) (words : List 
   former_own true = former_lexed (lex_text text)
   former_own false = refl
 
-  former_text : (own : Bool) (c : Checked) → (by_text text view lent words own c).answer ≡ former_by_text text view lent own c
+  former_text : (own : Bool) (c : Result Unit IllFormed) → (by_text text view lent words own c).answer ≡ former_by_text text view lent own c
   unfolding by_text former_by_text
-  former_text own WellFormed = former_own own
-  former_text own (IllFormed line column) = refl
+  former_text own (Ok _) = former_own own
+  former_text own (Err at) = refl
 
   former_sheet : (own : Bool) (x : Sheet) → (by_sheet text view lent words own x).answer ≡ former_by_sheet text view lent own x
   unfolding by_sheet former_by_sheet

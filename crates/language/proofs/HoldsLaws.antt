@@ -1,4 +1,5 @@
 -- What the lent words hold after the whole call, word by word, whatever it answers (Rattle.tokens.specs.Buffer).
+use Rattle.std.specs.Prelude.{Result, Ok, Err}
 use Prim.Native.Nat.{ℕ, ◌≤◌}
 use mathlib.Core.Path.{◌≡◌, refl}
 use mathlib.Core.Bool.{Bool, true, false}
@@ -9,8 +10,7 @@ use borrow.Author.Tests.{ltb-false}
 use Rattle.text.specs.Choice.{pick}
 use Rattle.text.specs.Utf8.{Character}
 use Rattle.text.specs.Place.{check_of}
-use Rattle.text.specs.declared.place.Checked.{Checked}
-use Rattle.text.specs.declared.place.Checked.TheVariants.{WellFormed, IllFormed}
+use Rattle.text.specs.declared.place.IllFormed.{IllFormed}
 use Rattle.tokens.specs.Result.{Res, ok, no}
 use Rattle.tokens.specs.Lexing.{Lexing, most_bytes, least_words}
 use Rattle.tokens.specs.Lex.{lex_text}
@@ -53,10 +53,10 @@ module _ (call : Call) (text sheet : List ℕ) (lent : List (List ℕ)) (words :
   own_held room true = rw (lexed-late (seen call sheet) lent (lex_text text) (laid text)) (records-held text words room)
   own_held room false = asked-held 53 text words refl
 
-  text-held : least_words ≤ length words → (own : Bool) (c : Checked) → Held (by_text text (seen call sheet) lent words own c)
+  text-held : least_words ≤ length words → (own : Bool) (c : Result Unit IllFormed) → Held (by_text text (seen call sheet) lent words own c)
   unfolding by_text refused_with
-  text-held room own WellFormed = own_held room own
-  text-held room own (IllFormed line column) = asked-held 4 text words refl
+  text-held room own (Ok _) = own_held room own
+  text-held room own (Err at) = asked-held 4 text words refl
 
   sheet-held : least_words ≤ length words → (own : Bool) (x : Sheet) → Held (by_sheet text (seen call sheet) lent words own x)
   unfolding by_sheet refused_with

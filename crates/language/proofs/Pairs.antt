@@ -21,7 +21,7 @@ use Rattle.text.specs.Part.{part_of, same_bytes}
 use Rattle.text.specs.Ascii.{is_digit, is_alpha, is_word_start, is_word_part}
 use Rattle.text.specs.Split.{split}
 use Rattle.text.specs.Find.{first_at}
-use Rattle.tokens.specs.Cursor.{bytes_of, tokens, is_word, is_kind, take_kind, take_word, take_in, to_taken, accepted}
+use Rattle.tokens.specs.Cursor.{bytes_of, tokens, is_word, is_kind, take_kind, take_word, take_in, accepted, to_taken}
 use Rattle.tokens.specs.Duration.{unit_of, bounded_ms, whole_ms, amount}
 use Rattle.tokens.specs.Lexing.{record_of, least_words}
 use Rattle.tokens.specs.Lex.{lex_from, lex_text, answer_from, written_from, lex_answer, lex_words}
@@ -37,8 +37,8 @@ use Rattle.sheet.specs.Party.{owner_by, owner_of, owns, entries_on}
 use Rattle.sheet.specs.View.{may_repeat, any_form, seen, own_primary}
 use Rattle.sheet.specs.declared.Call.{Call}
 use Rattle.sheet.specs.Resolve.{is_candidate, candidates, is_in, in_scope, elsewhere, none_of, chosen, pick_named}
-use Rattle.references.specs.Refs.{checked_name, closed_name, quoted_name, name_or_id, adapter_number, adapter_assign, adapter_clause, scope_or_primary, found_at, referred, close_r, open_r, reference, lamp_ref, group_ref, device_ref, dev_name, input_device_ref, lamp_target, group_target, broadcast_target, light_target, to_index, to_name, to_scope, to_ref, to_target}
-use Rattle.references.specs.Args.{slot_of, is_named, key_slot, named_slot, unnamed_slot, slot_at, type_word, input_type_value, device_item, instance_item, group_item, type_item, adapter_item, item_at, is_dev, is_number, is_group, is_on, is_set, is_repeat, put, no_args, arg_at, count_with, args_from, device_instance, with_inst, with_dev, with_group, selected, close_args, input_selector, one_instance, input_ref, to_item, to_args, to_selector, to_input}
+use Rattle.references.specs.Refs.{checked_name, closed_name, quoted_name, name_or_id, adapter_number, adapter_assign, adapter_clause, scope_or_primary, found_at, referred, close_r, open_r, reference, lamp_ref, group_ref, device_ref, dev_name, input_device_ref, lamp_target, group_target, broadcast_target, light_target}
+use Rattle.references.specs.Args.{slot_of, is_named, key_slot, named_slot, unnamed_slot, slot_at, type_word, input_type_value, device_item, instance_item, group_item, type_item, adapter_item, item_at, is_dev, is_number, is_group, is_on, is_set, is_repeat, put, no_args, arg_at, count_with, args_from, device_instance, with_inst, with_dev, with_group, selected, close_args, input_selector, one_instance, input_ref}
 use Rattle.references.specs.Grammar.{slot}
 use Rattle.model.specs.Limits.{last_short_address, last_group, last_scene, last_level, last_instance, last_instance_group, last_instance_type, last_event_information}
 use Rattle.model.specs.Lists.{padded, triggers_of, conditions_of, accepted_with, refused_with}
@@ -131,5 +131,5 @@ Holds [] = Unit {0}
 Holds (r ∷ rs) = ((read_of r.call (ascii r.text) S [] (zeros least_words)).answer ≡ r.answer) × Holds rs
 
 pairs : Holds table
-unfolding index_of index_after table ◌⇒◌ ◌⇒ₐ◌ line S zeros one on counted line_feeds since_line_feed line_after column_after after step_of walked judge check_of is_ascii sequence_length is_tail is_second two three four sized front decode_at chars_from chars row_end white_space among is_white part_of same_bytes is_digit is_alpha is_word_start is_word_part split first_at bytes_of tokens is_word is_kind take_kind take_word take_in to_taken accepted unit_of bounded_ms whole_ms amount record_of lex_from lex_text answer_from written_from lex_answer lex_words record_words token_line token_column capacity words_of written word_at kind_at number_at start_at length_at line_at column_at bytes_at is_plain passed trivia_mode trivia quoted with_digit digits single_kind pair_kind single punct string time_by time decimal amount_to duration_by duration fraction_at fraction point tokens-number_at number word token_at words_in position choice_by choice_at take_words phrase_at head_of either_at point_choice phrase_choice point_phrase kind_of most_of without_return field rest has_comma digits_on numeral is_mark plain is_name checked_row read_row primary_of adapter_of party_by party_of line_by bare_line bare_name line_of name_of is_owner_of has_owner may_follow following_check is_primary lines_check sheet_check entries is_listing lists may_repeat any_form owner_by owner_of owns entries_on seen own_primary is_candidate candidates is_in in_scope elsewhere none_of chosen pick_named checked_name closed_name quoted_name name_or_id adapter_number adapter_assign adapter_clause scope_or_primary found_at referred close_r open_r reference lamp_ref group_ref device_ref dev_name input_device_ref lamp_target group_target broadcast_target light_target to_index to_name to_scope to_ref to_target slot_of is_named key_slot named_slot unnamed_slot slot_at type_word input_type_value device_item instance_item group_item type_item adapter_item item_at is_dev is_number is_group is_on is_set is_repeat put no_args arg_at count_with args_from device_instance with_inst with_dev with_group selected close_args input_selector one_instance input_ref to_item to_args to_selector to_input slot last_short_address last_group last_scene last_level last_instance last_instance_group last_instance_type last_event_information padded triggers_of conditions_of accepted_with refused_with range_of named_phrase target_for property_word signed most_offset offset_bound offset_at with_offset solar_event solar_at time_bound lamp_property lamp_reading group_property group_reading input_property input_reading time_property time_reading sun_property sun_reading event_property event_reading var_reading reading_by reading_at literal_at delta_at with_delta read_value value_at power_of crossing_of occupancy_of aggregate_of online_of override_of timer_trigger rule_trigger controller_change controller_trigger http_trigger every_trigger at_on at_bound at_trigger forward is_between is_in_any days_of has_day every_day bits_from day_at last_day covers gets_day with_range range_at ranges_from no_day day_set on_days days scene_closed scene_trigger device_trigger group_trigger hcl_trigger level_cross lamp_change lamp_trigger input_device_change input_device_trigger raw_data raw_event event_of event_at input_event input_becomes light_cross position_change property_trigger point_trigger input_change input_trigger trigger_by trigger_at comparison_by comparison_at controller_condition timer_condition rule_condition last_fired_condition device_condition sun_of sun_condition time_to time_condition day_condition group_condition hcl_of hcl_condition lamp_property_of lamp_judged lamp_compared lamp_point lamp_state lamp_condition light_than input_state input_condition text_operand operand_at var_compared var_condition condition_by condition_at fits topic_name topic_by topic_of repeated trigger_named when_section if_section at_end rule_at parsed on_accepted rule_of lexed_from by_primary by_text by_sheet read_of
+unfolding index_of index_after table ◌⇒◌ ◌⇒ₐ◌ line S zeros one on counted line_feeds since_line_feed line_after column_after after step_of walked judge check_of is_ascii sequence_length is_tail is_second two three four sized front decode_at chars_from chars row_end white_space among is_white part_of same_bytes is_digit is_alpha is_word_start is_word_part split first_at bytes_of tokens is_word is_kind take_kind take_word take_in to_taken accepted unit_of bounded_ms whole_ms amount record_of lex_from lex_text answer_from written_from lex_answer lex_words record_words token_line token_column capacity words_of written word_at kind_at number_at start_at length_at line_at column_at bytes_at is_plain passed trivia_mode trivia quoted with_digit digits single_kind pair_kind single punct string time_by time decimal amount_to duration_by duration fraction_at fraction point tokens-number_at number word token_at words_in position choice_by choice_at take_words phrase_at head_of either_at point_choice phrase_choice point_phrase kind_of most_of without_return field rest has_comma digits_on numeral is_mark plain is_name checked_row read_row primary_of adapter_of party_by party_of line_by bare_line bare_name line_of name_of is_owner_of has_owner may_follow following_check is_primary lines_check sheet_check entries is_listing lists may_repeat any_form owner_by owner_of owns entries_on seen own_primary is_candidate candidates is_in in_scope elsewhere none_of chosen pick_named checked_name closed_name quoted_name name_or_id adapter_number adapter_assign adapter_clause scope_or_primary found_at referred close_r open_r reference lamp_ref group_ref device_ref dev_name input_device_ref lamp_target group_target broadcast_target light_target slot_of is_named key_slot named_slot unnamed_slot slot_at type_word input_type_value device_item instance_item group_item type_item adapter_item item_at is_dev is_number is_group is_on is_set is_repeat put no_args arg_at count_with args_from device_instance with_inst with_dev with_group selected close_args input_selector one_instance input_ref slot last_short_address last_group last_scene last_level last_instance last_instance_group last_instance_type last_event_information padded triggers_of conditions_of accepted_with refused_with range_of named_phrase target_for property_word signed most_offset offset_bound offset_at with_offset solar_event solar_at time_bound lamp_property lamp_reading group_property group_reading input_property input_reading time_property time_reading sun_property sun_reading event_property event_reading var_reading reading_by reading_at literal_at delta_at with_delta read_value value_at power_of crossing_of occupancy_of aggregate_of online_of override_of timer_trigger rule_trigger controller_change controller_trigger http_trigger every_trigger at_on at_bound at_trigger forward is_between is_in_any days_of has_day every_day bits_from day_at last_day covers gets_day with_range range_at ranges_from no_day day_set on_days days scene_closed scene_trigger device_trigger group_trigger hcl_trigger level_cross lamp_change lamp_trigger input_device_change input_device_trigger raw_data raw_event event_of event_at input_event input_becomes light_cross position_change property_trigger point_trigger input_change input_trigger trigger_by trigger_at comparison_by comparison_at controller_condition timer_condition rule_condition last_fired_condition device_condition sun_of sun_condition time_to time_condition day_condition group_condition hcl_of hcl_condition lamp_property_of lamp_judged lamp_compared lamp_point lamp_state lamp_condition light_than input_state input_condition text_operand operand_at var_compared var_condition condition_by condition_at fits topic_name topic_by topic_of repeated trigger_named when_section if_section at_end rule_at parsed on_accepted rule_of lexed_from by_primary by_text by_sheet read_of
 pairs = (refl, (refl, (refl, (refl, (refl, (refl, (refl, (refl, (refl, (refl, (refl, (refl, (refl, (refl, (refl, (refl, tt))))))))))))))))

@@ -1,5 +1,6 @@
 -- What is answered on tokens depends on the text only by where its names stand: with the same tokens and the same bytes in strings, two texts are answered
 -- alike. Form by form, then of the whole rule, and of whole calls (document 02, §14, specs/Reflow.antt).
+use Rattle.std.specs.Prelude.{Option, ℤ}
 use Prim.Native.Nat.{ℕ}
 use mathlib.Core.Path.{◌≡◌, ◌∙◌, refl, ap}
 use mathlib.Core.Bool.{Bool, true, false}
@@ -24,7 +25,6 @@ use Rattle.model.specs.declared.InputRef.{InputRef}
 use Rattle.model.specs.declared.Days.{Days}
 use Rattle.model.specs.declared.TimeBound.{TimeBound}
 use Rattle.model.specs.declared.TimeBound.TheVariants.{Clock, Solar}
-use Rattle.model.specs.declared.Delta.{Delta}
 use Rattle.model.specs.declared.Reading.{Reading}
 use Rattle.model.specs.declared.Value.{Value}
 use Rattle.model.specs.declared.Value.TheVariants.{Reads}
@@ -70,7 +70,7 @@ pub within : {A B : Type 0} (f : A → B) {p r : Shown A} → p ≡ r →
 within {A} {B} f e = ap (λ (p : Shown A). record { bare = f p.bare; names = p.names }) e
 
 module _ (a b : List ℕ) where
-  pub reads-shown : (x y : Reading) (d : Delta) → shown_reading a x ≡ shown_reading b y → shown_value a (Reads x d) ≡ shown_value b (Reads y d)
+  pub reads-shown : (x y : Reading) (d : Option ℤ) → shown_reading a x ≡ shown_reading b y → shown_value a (Reads x d) ≡ shown_value b (Reads y d)
   unfolding value_parts
   reads-shown x y d e = within (λ z. Reads z d) e
 

@@ -1,4 +1,5 @@
 -- Document 02, §14, of the two sections, the whole rule and whole calls (specs/Reflow.antt): layout changes nothing.
+use Rattle.std.specs.Prelude.{Option, None, Some}
 use Prim.Native.Nat.{ℕ, zero, suc, ◌+◌, ◌≤◌}
 use native.Mathlib.Omega.{arith}
 use native.Mathlib.Decide.{dec_le}
@@ -23,8 +24,6 @@ use Rattle.sheet.specs.View.{View, seen, own_primary}
 use Rattle.sheet.specs.declared.Call.{Call}
 use Rattle.topics.specs.Topics.{fits}
 use Rattle.topics.specs.Ranges.{topic_by, name_in}
-use Rattle.topics.specs.declared.ranges.Topic.{Topic}
-use Rattle.topics.specs.declared.ranges.Topic.TheVariants.{Absent, Is}
 use Rattle.model.specs.Lists.{refused_with}
 use Rattle.model.specs.declared.Name.{Name}
 use Rattle.model.specs.declared.Trigger.{Trigger}
@@ -45,9 +44,9 @@ use Rattle.language.proofs.ReflowLaws.{trigger-alike, condition-alike}
 
 -- ---- topics: the bytes of a trigger's topic are among those of its names
 
-abbrev by_topic : Topic → List (List ℕ) → List (List ℕ)
-by_topic Absent names = []
-by_topic (Is name) names = names
+abbrev by_topic : Option Name → List (List ℕ) → List (List ℕ)
+by_topic None names = []
+by_topic (Some name) names = names
 
 abbrev topic_shown : Shown Trigger → List (List ℕ)
 topic_shown p = by_topic (topic_name p.bare) p.names

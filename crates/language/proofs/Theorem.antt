@@ -1,4 +1,5 @@
 -- The third demand of document 01 (specs/Demand.antt), of the definition of the whole call (specs/Read.antt).
+use Rattle.std.specs.Prelude.{Ok}
 use Prim.Native.Nat.{ℕ, ◌+◌, ◌≤◌}
 use native.Mathlib.Omega.{arith}
 use mathlib.Core.Path.{◌≡◌, refl, sym, ap, ◌∙◌, subst}
@@ -8,7 +9,6 @@ use borrow.Author.Tests.{le-ltb}
 use Rattle.text.specs.Rfc3629.{Utf8Octets}
 use Rattle.text.specs.Place.{start, check_of, well_formed as judged_well}
 use Rattle.text.proofs.PlaceRules.{judged, judged-one}
-use Rattle.text.specs.declared.place.Checked.TheVariants.{WellFormed}
 use Rattle.tokens.specs.Result.{Res, ok, no}
 use Rattle.tokens.specs.Cursor.{tokens}
 use Rattle.tokens.specs.Record.{capacity}
@@ -47,7 +47,7 @@ Reads text words view lent lists j =
     ReadWith (tokens text words) view (range_of words) (topics_with text lent) (capacity words) lists.triggers lists.conditions
 
 -- a text whose bytes are characters passes question 4
-pub passes : {text characters : List ℕ} → Utf8Octets text characters → check_of text ≡ WellFormed
+pub passes : {text characters : List ℕ} → Utf8Octets text characters → check_of text ≡ Ok tt
 passes {text} h = judged-one (judged text) (judged_well h)
 
 -- past the records there is no token

@@ -1,5 +1,5 @@
 -- Readings and VALUE (document 01, "Grammar").
-use Rattle.std.specs.Prelude.{ℕ, Bool, true, false, eqb}
+use Rattle.std.specs.Prelude.{ℕ, Bool, true, false, eqb, Some, None}
 use Rattle.text.specs.Choice.{pick}
 use Rattle.text.specs.Literal.{ascii}
 use Rattle.tokens.specs.Result.{Res, ok, bind, perhaps, refuse}
@@ -22,7 +22,6 @@ use Rattle.model.specs.declared.SunReading.{SunReading}
 use Rattle.model.specs.declared.SunReading.TheVariants.{Rise, Set, IsUp}
 use Rattle.model.specs.declared.EventReading.{EventReading}
 use Rattle.model.specs.declared.Reading.{Reading}
-use Rattle.model.specs.declared.Delta.{Delta}
 use Rattle.model.specs.declared.Value.{Value}
 use Rattle.model.specs.declared.Value.TheVariants.{Literal, Reads}
 use Rattle.language.specs.Words.{signed}
@@ -108,12 +107,12 @@ literal_at t minus i = bind (take_kind t INTEGER i) (λ n j. ok (Literal (signed
 
 -- "a reading with perhaps + or - an integer"
 unfoldable pub delta_at : (ℕ → Tok) → Reading → Bool → ℕ → Res Value
-delta_at t r minus i = bind (take_kind t INTEGER i) (λ n j. ok (Reads r (Delta.Is (signed minus n))) j)
+delta_at t r minus i = bind (take_kind t INTEGER i) (λ n j. ok (Reads r (Some (signed minus n))) j)
 
 unfoldable pub with_delta : (ℕ → Tok) → Reading → ℕ → Res Value
 with_delta t r i =
     perhaps (is_kind t PLUS i) i (λ j. delta_at t r false j)
-    (perhaps (is_kind t MINUS i) i (λ j. delta_at t r true j) (ok (Reads r Delta.Absent) i))
+    (perhaps (is_kind t MINUS i) i (λ j. delta_at t r true j) (ok (Reads r None) i))
 
 unfoldable pub read_value : (ℕ → Tok) → View → (ℕ → Name) → ℕ → ℕ → Res Value
 read_value t view range fuel i = bind (reading_at t view range fuel i) (λ r j. with_delta t r j)

@@ -1,6 +1,6 @@
 -- Every number in a value of a rule that an integer, a time or a duration writes is within its limits: said of the values alone, one line for each case.
 -- References, levels, scenes, event information and day sets are in the model's Ranges.antt. proofs/NumberLaws.antt shows it of every reading of a text's tokens.
-use Rattle.std.specs.Prelude.{ℕ, ◌≤◌, ◌<◌, List, ℤ, pos, negsuc}
+use Rattle.std.specs.Prelude.{ℕ, ◌≤◌, ◌<◌, List, ℤ, pos, negsuc, Option, Some, None}
 use Rattle.tokens.specs.Amount.{most_ms}
 use Rattle.tokens.specs.Rules.{most_run}
 use Rattle.tokens.specs.Numbers.{day_minutes}
@@ -8,7 +8,6 @@ use Rattle.model.specs.Ranges.{Free, Each}
 use Rattle.language.specs.Limits.{least_period, most_later, most_earlier}
 use Rattle.model.specs.declared.TimeBound.{TimeBound}
 use Rattle.model.specs.declared.TimeBound.TheVariants.{Clock, Solar}
-use Rattle.model.specs.declared.Delta.{Delta}
 use Rattle.model.specs.declared.Value.{Value}
 use Rattle.model.specs.declared.Value.TheVariants.{Literal, Reads}
 use Rattle.model.specs.declared.Operand.{Operand}
@@ -66,9 +65,9 @@ TriggerNumbers Trigger.HttpTrigger = Free
 TriggerNumbers (Trigger.MqttMessage topic) = Free
 
 -- "a reading with perhaps + or - an integer"
-unfoldable pub DeltaNumbers : Delta → Type 0
-DeltaNumbers Delta.Absent = Free
-DeltaNumbers (Delta.Is z) = IntegerInRange z
+unfoldable pub DeltaNumbers : Option ℤ → Type 0
+DeltaNumbers None = Free
+DeltaNumbers (Some z) = IntegerInRange z
 
 unfoldable pub ValueNumbers : Value → Type 0
 ValueNumbers (Literal z) = IntegerInRange z

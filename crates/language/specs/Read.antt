@@ -1,10 +1,9 @@
 -- The whole call: its answer and every word of the buffer at exit, as one function of what the call names (its habit, party and primary adapter), its
 -- text, sheet, lent topics and buffer (document 01, "Questions put to a call, in this order").
-use Rattle.std.specs.Prelude.{ℕ, List, Bool, true, false, length, ltb}
+use Rattle.std.specs.Prelude.{ℕ, List, Bool, true, false, length, ltb, Result, Ok, Err}
 use Rattle.text.specs.Choice.{pick}
 use Rattle.text.specs.Place.{check_of}
-use Rattle.text.specs.declared.place.Checked.{Checked}
-use Rattle.text.specs.declared.place.Checked.TheVariants.{WellFormed, IllFormed}
+use Rattle.text.specs.declared.place.IllFormed.{IllFormed}
 use Rattle.tokens.specs.Result.{Res, ok, no}
 use Rattle.tokens.specs.Record.{capacity}
 use Rattle.tokens.specs.Cursor.{tokens}
@@ -64,9 +63,9 @@ by_primary text view lent words true =
 by_primary text view lent words false = record { answer = refused_with 53 0 0 0; buffer = words }
 
 -- "Text well-formed UTF-8 (RFC 3629)? 4"
-unfoldable pub by_text : List ℕ → View → List (List ℕ) → List ℕ → Bool → Checked → Outcome
-by_text text view lent words own WellFormed = by_primary text view lent words own
-by_text text view lent words own (IllFormed line column) = record { answer = refused_with 4 line column 0; buffer = words }
+unfoldable pub by_text : List ℕ → View → List (List ℕ) → List ℕ → Bool → Result Unit IllFormed → Outcome
+by_text text view lent words own (Ok _) = by_primary text view lent words own
+by_text text view lent words own (Err at) = record { answer = refused_with 4 at.line at.column 0; buffer = words }
 
 -- "Name sheet well formed? 3, at its first bad line, column 0"
 unfoldable pub by_sheet : List ℕ → View → List (List ℕ) → List ℕ → Bool → Sheet → Outcome

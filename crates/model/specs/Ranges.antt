@@ -1,10 +1,9 @@
 -- Every reference in a value of a rule, and every instance, scene, level, event information and day set, is within the range of its kind (Limits.antt):
 -- said of the values alone, one line for each case.
-use Rattle.std.specs.Prelude.{ℕ, ◌^◌, ◌≤◌, ◌<◌, List, [], ◌∷◌}
+use Rattle.std.specs.Prelude.{ℕ, ◌^◌, ◌≤◌, ◌<◌, List, [], ◌∷◌, Option, Some, None}
 use Rattle.model.specs.Limits.{last_short_address, last_group, last_scene, last_level, last_instance, last_instance_group, last_instance_type, last_event_information, last_adapter, week_days}
 use Rattle.model.specs.declared.Ref.{Ref}
 use Rattle.model.specs.declared.InputRef.{InputRef}
-use Rattle.model.specs.declared.Number.{Number}
 use Rattle.model.specs.declared.Selector.{Selector}
 use Rattle.model.specs.declared.LightTarget.{LightTarget}
 use Rattle.model.specs.declared.Days.{Days}
@@ -44,9 +43,9 @@ abbrev pub InputInRange : InputRef → Type 0
 InputInRange r = DevInRange r.device × (r.instance ≤ last_instance)
 
 -- "type=0..31 or button 1, absolute 2, occupancy 3, light 4"
-unfoldable pub TypeInRange : Number → Type 0
-TypeInRange Number.Absent = Free
-TypeInRange (Number.Is n) = n ≤ last_instance_type
+unfoldable pub TypeInRange : Option ℕ → Type 0
+TypeInRange None = Free
+TypeInRange (Some n) = n ≤ last_instance_type
 
 -- "inst=0..31, group=0..31"
 unfoldable pub SelectorInRange : Selector → Type 0

@@ -1,4 +1,5 @@
 // The values that a rule is read as: references, time bounds, readings, triggers, conditions, and the answer of a call.
+// The numbers of the choices are those of the answer's words (include/tergyosul.h).
 #![tactic(auto)]
 
 pub mod limits;
@@ -44,18 +45,11 @@ pub struct InputRef {
     pub instance: u32,
 }
 
-// A number that may be absent.
-#[derive(Clone, Copy)]
-pub enum Number {
-    Absent,
-    Is(u32),
-}
-
 // What `input(…)` selects: an instance of a device, or a group of instances on an adapter, perhaps of one type.
 #[derive(Clone, Copy)]
 pub enum Selector {
     Instance(Ref, u32),
-    Group(u32, u32, Number),
+    Group(u32, u32, Option<u32>),
 }
 
 #[derive(Clone, Copy)]
@@ -73,7 +67,7 @@ pub struct Days {
 
 #[derive(Clone, Copy)]
 pub enum SolarEvent {
-    Sunrise,
+    Sunrise = 1,
     Sunset,
 }
 
@@ -103,37 +97,37 @@ pub enum Event {
 
 #[derive(Clone, Copy)]
 pub enum Occupancy {
-    Occupied,
+    Occupied = 1,
     Vacant,
 }
 
 #[derive(Clone, Copy)]
 pub enum Crossing {
-    Above,
+    Above = 1,
     Below,
 }
 
 #[derive(Clone, Copy)]
 pub enum Power {
-    On,
+    On = 1,
     Off,
 }
 
 #[derive(Clone, Copy)]
 pub enum Aggregate {
-    AnyOn,
+    AnyOn = 1,
     AllOff,
 }
 
 #[derive(Clone, Copy)]
 pub enum Online {
-    GoesOffline,
+    GoesOffline = 1,
     ComesOnline,
 }
 
 #[derive(Clone, Copy)]
 pub enum Override {
-    Starts,
+    Starts = 1,
     Clears,
 }
 
@@ -171,7 +165,7 @@ pub enum Trigger {
 
 #[derive(Clone, Copy)]
 pub enum LampReading {
-    Level,
+    Level = 1,
     Cct,
     IsOn,
     LastLevel,
@@ -179,14 +173,14 @@ pub enum LampReading {
 
 #[derive(Clone, Copy)]
 pub enum GroupReading {
-    AnyOn,
+    AnyOn = 5,
     AllOff,
     MemberCount,
 }
 
 #[derive(Clone, Copy)]
 pub enum InputReading {
-    Occupied,
+    Occupied = 8,
     Light,
     Position,
     LastEventAge,
@@ -194,7 +188,7 @@ pub enum InputReading {
 
 #[derive(Clone, Copy)]
 pub enum TimeReading {
-    Now,
+    Now = 12,
     Hour,
     Minute,
     Weekday,
@@ -202,14 +196,14 @@ pub enum TimeReading {
 
 #[derive(Clone, Copy)]
 pub enum SunReading {
-    Rise,
+    Rise = 16,
     Set,
     IsUp,
 }
 
 #[derive(Clone, Copy)]
 pub enum EventReading {
-    Value,
+    Value = 19,
     Device,
     Instance,
     Option,
@@ -227,35 +221,28 @@ pub enum Reading {
     Var(Name),
 }
 
-// The number that may be added to a reading.
-#[derive(Clone, Copy)]
-pub enum Delta {
-    Absent,
-    Is(i64),
-}
-
 // A number, or a reading with perhaps a number added.
 #[derive(Clone, Copy)]
 pub enum Value {
     Literal(i64),
-    Reads(Reading, Delta),
+    Reads(Reading, Option<i64>),
 }
 
 #[derive(Clone, Copy)]
 pub enum Sun {
-    Up,
+    Up = 1,
     Down,
 }
 
 #[derive(Clone, Copy)]
 pub enum Hcl {
-    Enabled,
+    Enabled = 1,
     Overridden,
 }
 
 #[derive(Clone, Copy)]
 pub enum Comparison {
-    Eq,
+    Eq = 1,
     Ne,
     Ge,
     Le,
@@ -266,7 +253,7 @@ pub enum Comparison {
 // A lamp's property that a condition can compare.
 #[derive(Clone, Copy)]
 pub enum LampProperty {
-    Level,
+    Level = 4,
     Cct,
 }
 
@@ -297,7 +284,7 @@ pub enum Condition {
     DayIn(Days),
 }
 
-// The finished lists: four records each, of which the first count are in use.
+// The finished lists: four records each, of which the first count are in use. They are arrays with a count, since nothing is put on the heap.
 #[derive(Clone, Copy)]
 pub struct TriggerRow {
     pub trigger: Trigger,
@@ -320,7 +307,8 @@ pub struct Conditions {
     pub count: usize,
 }
 
-// The answer to a whole call: four zeros and the lists, or a refusal's number, place and detail with empty lists.
+// The answer to a whole call: four zeros and the lists, or a refusal's number, place and detail with empty lists. The number says which,
+// as include/tergyosul.h has it for C.
 #[derive(Clone, Copy)]
 pub struct Answer {
     pub number: u32,

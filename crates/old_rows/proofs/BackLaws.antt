@@ -1,17 +1,20 @@
 -- The name for a reference, line by line, and the rows of a list one behind the other.
+use Rattle.std.specs.Prelude.{Result, Ok, Err}
+use Rattle.std.proofs.lemmas.List.{take_all}
 use Prim.Native.Nat.{ℕ, ◌+◌, ◌*◌, ◌<◌, ◌≤◌}
 use native.Mathlib.Omega.{arith}
 use native.Mathlib.Numerals.{add-one}
 use mathlib.Core.Path.{◌≡◌, ◌∙◌, refl, sym, ap, subst}
 use mathlib.Core.Bool.{Bool, true, false, not}
 use mathlib.Core.List.{List, [], ◌∷◌, ◌++◌, append_assoc, append-nil}
-use lib.ListN.{length, drop, take, get_or}
+use lib.ListN.{length-take, length, drop, take, get_or}
 use lib.Dec.{eqb}
 use lib.Seq.{take-suc, length-take-le, take-append_seam}
 use borrow.Author.Rules.{rules}
 use borrow.Author.Tests.{lt-ltb, le-ltb, lt-leb, le-leb, eq-eqb, ne_eqb}
-use mir.Syntax.{w8, w32}
+use mir.Syntax.{w8}
 use mir.Val
+use Rattle.std.specs.Prelude.{Result, Ok, Err}
 use Rattle.text.specs.Choice.{pick}
 use Rattle.text.specs.Part.{part_of}
 use Rattle.text.proofs.SplitLaws.{split-none, part-read}
@@ -24,8 +27,8 @@ use Rattle.sheet.specs.Adapters.{has}
 use Rattle.sheet.specs.Survey.{survey_of}
 use Rattle.sheet.specs.declared.Habit.{Habit}
 use Rattle.sheet.specs.declared.Settings.{Settings}
-use Rattle.sheet.specs.declared.rows.Survey.{Survey}
-use Rattle.sheet.specs.declared.rows.Verdict.{Verdict}
+use Rattle.sheet.specs.declared.rows.BadLine.{BadLine}
+use Rattle.sheet.specs.declared.rows.Said.{Said}
 use Rattle.sheet.proofs.CallLaws.{sheet-bad, sheet-good, own_is, view-is}
 use Rattle.language.specs.Read.{rule_call}
 use Rattle.sheet.specs.declared.names.Numbered.{Numbered}
@@ -39,11 +42,10 @@ use Rattle.spelling.specs.Put.{Put, Fits}
 use Rattle.spelling.proofs.PutLaws.{Made, joined, put-none, put_2, put-length, put_whole}
 use Rattle.writing.specs.Writing.{failing, refused_at, written_with}
 use Rattle.writing.proofs.OutcomeLaws.{handed_on}
-use Rattle.writing.proofs.PassedLaws.{array_length, passes, Passed, passed_none, passed_on, passed-not, passed-all}
+use Rattle.writing.proofs.PassedLaws.{array_length, passed_none, passed_on, passed-not, passed-all}
 use Rattle.old_rows.specs.Back.{changed_of, is_fitting, first_fitting, name_back, row_bytes, row_for, rows_for, is_change, after_all, first_other, is_named, least_bytes, first_unnamed, by_names, by_entries, by_room, by_sheet, back_of}
-use Rattle.old_rows.specs.Made.{most_bytes, RowsMade}
+use Rattle.old_rows.specs.Made.{most_bytes, unnamed_in, RowsMade}
 use Rattle.old_rows.specs.declared.restore.Changed.{Changed}
-use Rattle.old_rows.specs.declared.restore.Rows.{Rows}
 use Rattle.old_rows.proofs.SheetNames.{back-name-short, back-adapter, row-short}
 
 -- of the names from an offset of the sheet on, the first that fits is x
@@ -81,47 +83,59 @@ rows_append view [] ys = refl
 rows_append view (x ∷ xs) ys = ap (λ (l : List ℕ). row_for view (changed_of x.trigger) ++ l) (rows_append view xs ys)
     ∙ sym (append_assoc (row_for view (changed_of x.trigger)) (rows_for view xs) (rows_for view ys))
 
+-- what is told of the one side of a result
+ok_same : {m n : ℕ} → ◌≡◌ {A = Result ℕ ℕ} (Ok m) (Ok n) → m ≡ n
+ok_same e = cc
+
+err_same : {m n : ℕ} → ◌≡◌ {A = Result ℕ ℕ} (Err m) (Err n) → m ≡ n
+err_same e = cc
+
+ok_err : {m n : ℕ} → ◌≡◌ {A = Result ℕ ℕ} (Ok m) (Err n) → ⊥
+ok_err e = cc
+
 -- the rows of the triggers before i are written, all of them have a name, and none of their rows has more than 68 bytes
-module _ (view : View) (count : ℕ) (rows : List TriggerRow) (before : List ℕ) where
+module _ (view : View) (rows : List TriggerRow) (before : List ℕ) where
   pub record Making (made : List ℕ) (end i : ℕ) : Type 0 where
-    pub passed : Passed (is_named view) 1 count rows i
+    pub passed : failing (is_named view) (1 + i) (drop i rows) ≡ failing (is_named view) 1 rows
+    pub few : length rows ≤ most_triggers
     pub put : Put before 0 (rows_for view (take i rows)) made end
     pub short : end ≤ i * 68
-    pub within_count : i ≤ count
     pub long : length made ≡ most_bytes
 
-  pub none_made : length rows ≡ most_triggers → count ≤ most_triggers → length before ≡ most_bytes → Making before 0 0
+  pub none_made : length rows ≤ most_triggers → length before ≡ most_bytes → Making before 0 0
   unfolding rows_for
-  none_made e h k = record { passed = passed_none (is_named view) 1 count rows e h; put = put-none; short = omega arith; within_count = omega arith; long = k }
+  none_made e k = record { passed = passed_none (is_named view) 1 rows; few = e; put = put-none; short = omega arith; long = k }
 
   module _ {made : List ℕ} {end i : ℕ} (m : Making made end i) where
-    pub all_made : count ≤ i → RowsMade view (take count rows) (record { unnamed = 0; length = end }) before made
-    all_made h =
-        let w = m.within_count in
-        let e : i ≡ count = omega arith in
-        let few = m.passed.few in
+    pub all_made : i ≤ length rows → length rows ≤ i → RowsMade view rows (Ok end) before made
+    all_made w h =
+        let few = m.few in
         let s = m.short in
         record {
-          first = passed-all (is_named view) 1 count rows i m.passed h;
-          put = λ _. subst (λ (n : ℕ). Put before 0 (rows_for view (take n rows)) made end) e m.put;
-          short = omega arith;
+          first = passed-all (is_named view) 1 rows i m.passed h;
+          put = λ n e.
+              subst (λ (k : ℕ). Put before 0 (rows_for view rows) made k) (ok_same e)
+              (subst (λ (xs : List TriggerRow). Put before 0 (rows_for view xs) made end) (take_all i rows h) m.put);
+          short = λ n e. let d : end ≡ n = ok_same e in omega arith;
+          some = λ n e. absurd (ok_err e);
           long = m.long;
         }
 
     -- the trigger at i, with what it says and the name that was found for it
-    module _ (here : i < count) (unused : TriggerRow) {c : Changed} (says : c ≡ changed_of (get_or rows i unused).trigger)
+    module _ (here : i < length rows) (unused : TriggerRow) {c : Changed} (says : c ≡ changed_of (get_or rows i unused).trigger)
         {name : List ℕ} (found : name ≡ name_back view c.of) where
       asked : not (eqb (length name) 0) ≡ is_named view (get_or rows i unused)
       unfolding is_named
       asked = rw (← says, ← found)
 
-      pub one_unnamed : length name ≡ 0 → RowsMade view (take count rows) (record { unnamed = 1 + i; length = 0 }) before made
+      pub one_unnamed : length name ≡ 0 → RowsMade view rows (Err (1 + i)) before made
       one_unnamed z =
-          let t : not (not (eqb (length name) 0)) ≡ true = rw (eq-eqb (length name) 0 z) in
+          let t : not (eqb (length name) 0) ≡ false = rw (eq-eqb (length name) 0 z) in
           record {
-            first = passed-not (is_named view) 1 count rows i m.passed here _ asked t;
-            put = λ e. absurd (omega arith);
-            short = omega arith;
+            first = passed-not (is_named view) 1 rows i m.passed here unused asked t;
+            put = λ n e. absurd (ok_err (sym e));
+            short = λ n e. absurd (ok_err (sym e));
+            some = λ n e. let d : 1 + i ≡ n = err_same e in omega arith;
             long = m.long;
           }
 
@@ -132,10 +146,7 @@ module _ (view : View) (count : ℕ) (rows : List TriggerRow) (before : List ℕ
       last : rows_for view (take (i + 1) rows) ≡ rows_for view (take i rows) ++ row_bytes c.change name c.of.adapter
       unfolding rows_for
       last =
-          let all = m.passed.all in
-          let few = m.passed.few in
-          let inside : i < length rows = omega arith in
-          ap (rows_for view) (ap (λ (n : ℕ). take n rows) (add-one i) ∙ take-suc rows i unused inside)
+          ap (rows_for view) (ap (λ (n : ℕ). take n rows) (add-one i) ∙ take-suc rows i unused here)
           ∙ rows_append view (take i rows) _
           ∙ ap (λ (l : List ℕ). rows_for view (take i rows) ++ l) (append-nil _ ∙ sym row_is)
 
@@ -149,24 +160,27 @@ module _ (view : View) (count : ℕ) (rows : List TriggerRow) (before : List ℕ
         row_fits =
             let e = m.long in
             let s = m.short in
-            let few = m.passed.few in
+            let few = m.few in
             let r = row-short c.change name c.of.adapter brief known in
             record { room = omega arith }
 
         pub one_made : (length name ≡ 0 → ⊥) → {after : List ℕ} {to : ℕ} → Put made end (row_bytes c.change name c.of.adapter) after to →
             Making after to (i + 1)
         one_made some {after} {to} p =
-            let t : not (not (eqb (length name) 0)) ≡ false = rw (ne_eqb (length name) 0 some) in
+            let t : not (eqb (length name) 0) ≡ true = rw (ne_eqb (length name) 0 some) in
             let s = m.short in
             let r = row-short c.change name c.of.adapter brief known in
             let place = p.place in
             record {
-              passed = passed_on (is_named view) 1 count rows i m.passed here _ asked t;
+              passed = passed_on (is_named view) 1 rows i m.passed here unused asked t;
+              few = m.few;
               put = put_2 two_parts _ _ _ _ _ _ m.put p;
               short = omega arith;
-              within_count = omega arith;
               long = put-length p ∙ m.long;
             }
+
+pub few_taken : (count : ℕ) (rows : List TriggerRow) → count ≤ most_triggers → length (take count rows) ≤ most_triggers
+few_taken count rows h = simp length-take (omega arith)
 
 -- the name that was found
 module _ (settings : Settings) (s : List ℕ) (of : Numbered) {name : List ℕ} (found : name ≡ name_back (view_of settings s) of) where
@@ -176,25 +190,12 @@ module _ (settings : Settings) (s : List ℕ) (of : Numbered) {name : List ℕ} 
   pub found-known : (length name ≡ 0 → ⊥) → of.adapter ≤ last_adapter
   found-known some = back-adapter settings s of (λ z. some (rw found z))
 
--- an index of at most four triggers, with those behind it counted
-pub index-fits : {i count : ℕ} → i < count → count ≤ most_triggers → mir.Val.Fits w32 i
-index-fits h k = record { fits = omega arith }
-
-pub ordinal-fits : {i count : ℕ} → i < count → count ≤ most_triggers → mir.Val.Fits w32 (1 + i)
-ordinal-fits h k = record { fits = omega arith }
-
-pub count_fits : {count : ℕ} → count ≤ most_triggers → mir.Val.Fits w32 count
-count_fits h = record { fits = omega arith }
-
-pub next_fits : {count : ℕ} → count ≤ most_triggers → mir.Val.Fits w32 (count + 1)
-next_fits h = record { fits = omega arith }
-
 -- ---- 61
 
 module _ (l : Triggers) (conditions : ℕ) {n : ℕ} (asked : n ≡ failing is_change 1 (take l.count l.rows)) where
-  pub other_trigger : (n ≡ 0 → ⊥) → n ≡ first_other l conditions
+  pub other_trigger_lem : (n ≡ 0 → ⊥) → n ≡ first_other l conditions
   unfolding first_other
-  other_trigger h = asked ∙ rw (ne_eqb (failing is_change 1 (take l.count l.rows)) 0 (λ z. h (asked ∙ z)))
+  other_trigger_lem h = asked ∙ rw (ne_eqb (failing is_change 1 (take l.count l.rows)) 0 (λ z. h (asked ∙ z)))
 
   none_other : n ≡ 0 → after_all l.count conditions ≡ first_other l conditions
   unfolding first_other
@@ -208,53 +209,55 @@ module _ (l : Triggers) (conditions : ℕ) {n : ℕ} (asked : n ≡ failing is_c
   unfolding after_all
   some-condition h z = rw (ne_eqb conditions 0 z) at (none_other h)
 
-pub ruleset others = (rules, passes, index-fits, ordinal-fits, count_fits, next_fits, other_trigger, no_condition_lem, some-condition)
-
-pub ruleset making = (rules, array_length, index-fits, ordinal-fits, none_made, all_made, one_unnamed, row_fits, one_made, found_brief, found-known)
+pub ruleset making = (rules, array_length, few_taken, none_made, all_made, one_unnamed, row_fits, one_made, found_brief, found-known)
 
 -- ---- the call
 
--- the bytes that were made
-module _ {view : View} {xs : List TriggerRow} {r : Rows} {before made : List ℕ} (m : RowsMade view xs r before made) where
-  part-long : r.length ≡ length (take r.length made)
-  part-long =
-      let short = m.short in
-      let long = m.long in
-      sym (length-take-le r.length made (omega arith))
-
 -- 62 and the rows
-module _ (view : View) (l : Triggers) (b : List ℕ) {r : Rows} {before made : List ℕ} (m : RowsMade view (take l.count l.rows) r before made) where
-  pub unnamed : (r.unnamed ≡ 0 → ⊥) → refused_at 62 r.unnamed b ≡ by_names view l b
+module _ (view : View) (l : Triggers) (b : List ℕ) {r : Result ℕ ℕ} {before made : List ℕ} (m : RowsMade view (take l.count l.rows) r before made) where
+  pub unnamed : {n : ℕ} → r ≡ Err n → refused_at 62 n b ≡ by_names view l b
   unfolding by_names first_unnamed
-  unnamed h = rw (← m.first, ne_eqb r.unnamed 0 h)
+  unnamed {n} e =
+      let f : n ≡ failing (is_named view) 1 (take l.count l.rows) = ap unnamed_in (sym e) ∙ m.first in
+      let k = m.some n e in
+      rw (← f, ne_eqb n 0 (λ z. omega arith))
 
-  module _ (none : r.unnamed ≡ 0) where
-    rows_are : take r.length made ≡ rows_for view (take l.count l.rows)
+  module _ {n : ℕ} (is : r ≡ Ok n) where
+    -- room in the buffer and in what was made
+    pub made_room : n ≤ length made
+    made_room = let short = m.short n is in let long = m.long in omega arith
+
+    pub buffer_room : least_bytes ≤ length b → n ≤ length b
+    buffer_room h = let short = m.short n is in omega arith
+
+    rows_are : take n made ≡ rows_for view (take l.count l.rows)
     rows_are =
         let bytes = rows_for view (take l.count l.rows) in
-        let p = m.put none in
-        let short = m.short in
+        let p = m.put n is in
+        let short = m.short n is in
         let long = m.long in
         let same = put-length p in
         let place = p.place in
         let w = put_whole before bytes (omega arith) p in
-        ap (λ (n : ℕ). take n made) w.1 ∙ ap (take (length bytes)) w.0 ∙ take-append_seam bytes (drop (length bytes) before)
+        ap (λ (k : ℕ). take k made) w.1 ∙ ap (take (length bytes)) w.0 ∙ take-append_seam bytes (drop (length bytes) before)
 
     all_named : written_with (rows_for view (take l.count l.rows)) b ≡ by_names view l b
     unfolding by_names first_unnamed
-    all_named = rw (← m.first, eq-eqb r.unnamed 0 none)
+    all_named =
+        let none : failing (is_named view) 1 (take l.count l.rows) ≡ 0 = sym m.first ∙ ap unnamed_in is in
+        rw none
 
     -- the buffer's first bytes are those that were made
-    pub written : {ys : List ℕ} → ys ≡ take r.length made →
-        (record { number = 0; line = 0; column = 0; detail = 0; length = r.length } ≡ (by_names view l b).answer)
-        × (ys ++ drop r.length b ≡ (by_names view l b).buffer)
+    pub written : {ys : List ℕ} → ys ≡ take n made →
+        (record { number = 0; line = 0; column = 0; detail = 0; length = n } ≡ (by_names view l b).answer)
+        × (ys ++ drop n b ≡ (by_names view l b).buffer)
     unfolding written_with
     written {ys} h =
         let bytes = rows_for view (take l.count l.rows) in
-        let size : r.length ≡ length bytes = part-long m ∙ ap length rows_are in
+        let size : n ≡ length bytes = sym (length-take-le n made made_room) ∙ ap length rows_are in
         handed_on all_named (
           ap (λ (k : ℕ). record { number = 0; line = 0; column = 0; detail = 0; length = k }) size,
-          ap (λ (xs : List ℕ). xs ++ drop r.length b) (h ∙ rows_are) ∙ ap (λ (k : ℕ). bytes ++ drop k b) size,
+          ap (λ (xs : List ℕ). xs ++ drop n b) (h ∙ rows_are) ∙ ap (λ (k : ℕ). bytes ++ drop k b) size,
         )
 
 -- 54 and 61
@@ -283,13 +286,13 @@ module _ (view : View) (l : Triggers) (conditions : ℕ) (b : List ℕ) where
         all_changes h = rw (le-ltb (length b) least_bytes room, le-leb 1 l.count some, le-leb l.count most_triggers few, ← asked, eq-eqb n 0 h)
 
 -- the sheet and 53
-module _ (party primary : ℕ) (sheet : List ℕ) (l : Triggers) (conditions : ℕ) (b : List ℕ) {survey : Survey} (checked : survey ≡ survey_of party sheet) where
-  pub bad_sheet : {n : ℕ} → survey.verdict ≡ Verdict.BadLine n → refused_at 3 n b ≡ back_of party primary sheet l conditions b
+module _ (party primary : ℕ) (sheet : List ℕ) (l : Triggers) (conditions : ℕ) (b : List ℕ) {survey : Result Said BadLine} (checked : survey ≡ survey_of party sheet) where
+  pub bad_sheet : {bad : BadLine} → survey ≡ Err bad → refused_at 3 bad.line b ≡ back_of party primary sheet l conditions b
   unfolding back_of by_sheet
-  bad_sheet bad = rw (sheet-bad (rule_call party primary) sheet checked bad)
+  bad_sheet is = rw (sheet-bad (rule_call party primary) sheet checked is)
 
-  module _ (good : survey.verdict ≡ Verdict.WellFormed) (byte : mir.Val.Fits w8 primary) {own : Bool}
-      (asked : own ≡ has survey.said.own primary) where
+  module _ {said : Said} (good : survey ≡ Ok said) (byte : mir.Val.Fits w8 primary) {own : Bool}
+      (asked : own ≡ has said.own primary) where
     pub not_own_lem : own ≡ false → refused_at 53 0 b ≡ back_of party primary sheet l conditions b
     unfolding back_of by_sheet by_room
     not_own_lem h =
@@ -297,7 +300,7 @@ module _ (party primary : ℕ) (sheet : List ℕ) (l : Triggers) (conditions : �
         rw (sheet-good c sheet checked good, ← own_is c sheet checked good byte asked, h)
 
     pub is_own : own ≡ true →
-        by_room (view_of (record { primary = primary; habit = Habit.Rule; own = survey.said.own; listed = survey.said.listed }) sheet) l conditions b true
+        by_room (view_of (record { primary = primary; habit = Habit.Rule; own = said.own; listed = said.listed }) sheet) l conditions b true
         ≡ back_of party primary sheet l conditions b
     unfolding back_of by_sheet
     is_own h =

@@ -1,4 +1,5 @@
 -- The rows one by one, and the call's questions one after the other, are the definition of the whole call.
+use Rattle.std.specs.Prelude.{Option}
 use Prim.Native.Nat.{ℕ, ◌+◌, ◌*◌, ◌<◌, ◌≤◌}
 use native.Mathlib.Omega.{arith}
 use mathlib.Core.Path.{◌≡◌, refl, sym, ap, ◌∙◌}
@@ -9,6 +10,7 @@ use borrow.Author.Rules.{rules}
 use borrow.Author.Tests.{eq-eqb, ne_eqb}
 use mir.Syntax.{w8, w32, w64}
 use mir.Val
+use Rattle.std.specs.Prelude.{Result, Ok, Err}
 use Rattle.text.specs.Part.{part_of}
 use Rattle.text.proofs.SplitLaws.{split-on, split-none, part-read}
 use Rattle.model.specs.Lists.{triggers_of, conditions_of, accepted_with, refused_with}
@@ -17,15 +19,15 @@ use Rattle.model.specs.declared.Conditions.{Conditions}
 use Rattle.model.specs.declared.Trigger.{Trigger}
 use Rattle.model.specs.declared.Triggers.{Triggers}
 use Rattle.model.proofs.AnswerLaws.{trigger-put}
+use Rattle.model.specs.declared.Ref.{Ref}
 use Rattle.sheet.specs.Adapters.{has}
 use Rattle.sheet.specs.Sheet.{lines, line_end}
 use Rattle.sheet.specs.Survey.{survey_of}
 use Rattle.sheet.specs.View.{View, view_of}
 use Rattle.sheet.specs.declared.Habit.{Habit}
-use Rattle.sheet.specs.declared.resolve.Found.{Found}
-use Rattle.sheet.specs.declared.resolve.Found.TheVariants.{One, Refused}
-use Rattle.sheet.specs.declared.rows.Survey.{Survey}
-use Rattle.sheet.specs.declared.rows.Verdict.{Verdict}
+use Rattle.sheet.specs.declared.resolve.Unfound.{Unfound}
+use Rattle.sheet.specs.declared.rows.BadLine.{BadLine}
+use Rattle.sheet.specs.declared.rows.Said.{Said}
 use Rattle.sheet.proofs.CallLaws.{sheet-bad, sheet-good, own_is, view-is}
 use Rattle.language.specs.Limits.{most_triggers}
 use Rattle.language.specs.Read.{rule_call}
@@ -88,20 +90,19 @@ module _ (view : View) (s : List ℕ) where
       pub next_count_fits : mir.Val.Fits w32 (list.count + 1)
       next_count_fits = let f = one_free in record { fits = omega arith }
 
-      module _ {end : ℕ} (e : end ≡ line_end s at) {l : List ℕ} (q : l ≡ part_of s at end) {row : Row} (read : row ≡ row_of l) {name : List ℕ}
-          (named : name ≡ row_name l) {found : Found} (looked : found ≡ found_in view row name) where
+      module _ {end : ℕ} (e : end ≡ line_end s at) {l : List ℕ} (q : l ≡ part_of s at end) {row : Option Row} (read : row ≡ row_of l) {name : List ℕ}
+          (named : name ≡ row_name l) {found : Result Ref Unfound} (looked : found ≡ found_in view row name) where
         turned : convert_from view 1 (lines s) ≡
             after g.entries (by_found (length g.entries + 1) (change_in row) found (convert_from view (length g.entries + 1 + 1) (lines (drop (end + 1) s))))
         unfolding convert_from
         turned = g.same ∙ rw (part-read 0x0A s at e h q, ← read, ← named, ← looked)
 
-        pub one_refused : {number detail : ℕ} {a : Answer} → found ≡ Refused number detail → a ≡ refused_with number (list.count + 1) 0 detail →
+        pub one_refused : {u : Unfound} {a : Answer} → found ≡ Err u → a ≡ refused_with u.number (list.count + 1) 0 u.detail →
             a ≡ answered (convert_from view 1 (lines s))
         unfolding by_found answered
         one_refused is made = made ∙ rw (turned, is, count_is)
 
-        pub one_more : {adapter number : ℕ} {change : Change} {x : Trigger} → found ≡ One adapter number → change ≡ change_in row →
-            x ≡ trigger_by change (record { adapter = adapter; number = number }) →
+        pub one_more : {r : Ref} {change : Change} {x : Trigger} → found ≡ Ok r → change ≡ change_in row → x ≡ trigger_by change r →
             Going (record { rows = set list.rows list.count (record { trigger = x }); count = list.count + 1 }) (end + 1)
         unfolding by_found
         one_more {x = x} is change made =
@@ -137,13 +138,13 @@ module _ (view : View) (s : List ℕ) where
     well_shaped h e = rw (ne_eqb (length s) 0 some, ← asked, eq-eqb n 0 h) e
 
 -- the sheet and 53
-module _ (party primary : ℕ) (s sheet : List ℕ) {survey : Survey} (checked : survey ≡ survey_of party sheet) {a : Answer} where
-  pub bad_sheet : {n : ℕ} → survey.verdict ≡ Verdict.BadLine n → a ≡ refused_with 3 n 0 0 → a ≡ rows_of party primary s sheet
+module _ (party primary : ℕ) (s sheet : List ℕ) {survey : Result Said BadLine} (checked : survey ≡ survey_of party sheet) {a : Answer} where
+  pub bad_sheet : {bad : BadLine} → survey ≡ Err bad → a ≡ refused_with 3 bad.line 0 0 → a ≡ rows_of party primary s sheet
   unfolding rows_of by_sheet
-  bad_sheet bad e = rw (sheet-bad (rule_call party primary) sheet checked bad) e
+  bad_sheet is e = rw (sheet-bad (rule_call party primary) sheet checked is) e
 
-  module _ (good : survey.verdict ≡ Verdict.WellFormed) (byte : mir.Val.Fits w8 primary) {own : Bool}
-      (asked : own ≡ has survey.said.own primary) where
+  module _ {said : Said} (good : survey ≡ Ok said) (byte : mir.Val.Fits w8 primary) {own : Bool}
+      (asked : own ≡ has said.own primary) where
     pub not_own_lem : own ≡ false → a ≡ refused_with 53 0 0 0 → a ≡ rows_of party primary s sheet
     unfolding rows_of by_sheet by_primary
     not_own_lem h e =
@@ -151,7 +152,7 @@ module _ (party primary : ℕ) (s sheet : List ℕ) {survey : Survey} (checked :
         rw (sheet-good c sheet checked good, ← own_is c sheet checked good byte asked, h) e
 
     pub is_own : own ≡ true →
-        a ≡ by_shape (view_of (record { primary = primary; habit = Habit.Rule; own = survey.said.own; listed = survey.said.listed }) sheet) s →
+        a ≡ by_shape (view_of (record { primary = primary; habit = Habit.Rule; own = said.own; listed = said.listed }) sheet) s →
         a ≡ rows_of party primary s sheet
     unfolding rows_of by_sheet by_primary
     is_own h e =

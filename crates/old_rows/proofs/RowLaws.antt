@@ -1,4 +1,5 @@
 -- Rules by which a search follows the code that reads a row, and looks up its name.
+use Rattle.std.specs.Prelude.{Option, None}
 use native.Mathlib.Omega.{arith}
 use mathlib.Core.Path.{◌≡◌, sym}
 use mathlib.Core.Bool.{Bool, true, false}
@@ -6,6 +7,7 @@ use mathlib.Core.List.{List}
 use Prim.Native.Nat.{ℕ}
 use lib.ListN.{length, take}
 use lib.Seq.{length-take-le}
+use Rattle.std.specs.Prelude.{Option, Result}
 use Rattle.text.specs.Find.{index_of}
 use Rattle.text.specs.Choice.{pick}
 use Rattle.text.proofs.FindLaws.{first-is, first-within}
@@ -17,40 +19,39 @@ use Rattle.sheet.specs.Resolve.{pick_named}
 use Rattle.sheet.specs.Sheet.{Entry}
 use Rattle.sheet.specs.View.{View}
 use Rattle.sheet.specs.declared.resolve.Scope.{Scope}
-use Rattle.sheet.specs.declared.resolve.Found.{Found}
+use Rattle.sheet.specs.declared.resolve.Unfound.{Unfound}
 use Rattle.sheet.proofs.LineLaws.{field-slice, reading}
 use Rattle.old_rows.specs.Row.{change_of, is_known, on_adapter, scoped, behind_name, behind_kind, row_name}
 use Rattle.old_rows.specs.Convert.{changed_kind, trigger_by, is_seen, found_in, change_in}
 use Rattle.old_rows.specs.Back.{changed_by, changed_of}
 use Rattle.old_rows.specs.declared.row.Change.{Change}
 use Rattle.old_rows.specs.declared.row.Row.{Row}
-use Rattle.old_rows.specs.declared.row.Row.TheVariants.{Malformed}
 use Rattle.old_rows.specs.declared.restore.Changed.{Changed}
 
 -- what the callees read, given to another
-pub by_number : (change : Change) (a : List ℕ) {n : ℕ} {x : Row} → n ≡ numeral a → x ≡ on_adapter change n → x ≡ on_adapter change (numeral a)
+pub by_number : (change : Change) (a : List ℕ) {n : Option ℕ} {x : Option Row} → n ≡ numeral a → x ≡ on_adapter change n → x ≡ on_adapter change (numeral a)
 by_number change a d e = rw (← d) e
 
-pub by_kind : (k l : List ℕ) {h m : List ℕ} {x : Row} → h ≡ k → m ≡ l → x ≡ behind_kind h m → x ≡ behind_kind k l
+pub by_kind : (k l : List ℕ) {h m : List ℕ} {x : Option Row} → h ≡ k → m ≡ l → x ≡ behind_kind h m → x ≡ behind_kind k l
 by_kind k l d f e = rw (← d, ← f) e
 
 -- the name is asked before what is behind it
 module _ (k l : List ℕ) {f : List ℕ} {r : Bool} (is : f ≡ field l) (asked : r ≡ is_name f) where
-  pub named-yes : {m : List ℕ} {x : Row} → r ≡ true → m ≡ rest l → x ≡ behind_name k m →
-      x ≡ pick (is_name (field l)) (behind_name k (rest l)) Malformed
+  pub named-yes : {m : List ℕ} {x : Option Row} → r ≡ true → m ≡ rest l → x ≡ behind_name k m →
+      x ≡ pick (is_name (field l)) (behind_name k (rest l)) None
   named-yes h g e = rw (← is, ← asked, h, ← g) e
 
-  pub named-no : (y : Row) → r ≡ false → Malformed ≡ pick (is_name (field l)) y Malformed
+  pub named-no : (y : Option Row) → r ≡ false → None ≡ pick (is_name (field l)) y None
   named-no y h = rw (← is, ← asked, h)
 
 -- the change that the code found
 module _ (k l : List ℕ) {w : List ℕ} {change : Change} {known : Bool} (behind : w ≡ rest l) (is : change ≡ change_of k w)
     (asked : known ≡ is_known change) where
-  pub change-yes : {a : List ℕ} {x : Row} → known ≡ true → a ≡ field l → x ≡ scoped change a →
-      x ≡ pick (is_known (change_of k (rest l))) (scoped (change_of k (rest l)) (field l)) Malformed
+  pub change-yes : {a : List ℕ} {x : Option Row} → known ≡ true → a ≡ field l → x ≡ scoped change a →
+      x ≡ pick (is_known (change_of k (rest l))) (scoped (change_of k (rest l)) (field l)) None
   change-yes h f e = rw (← behind, ← is, ← asked, h, ← f) e
 
-  pub change-no : (y : Row) → known ≡ false → Malformed ≡ pick (is_known (change_of k (rest l))) y Malformed
+  pub change-no : (y : Option Row) → known ≡ false → None ≡ pick (is_known (change_of k (rest l))) y None
   change-no y h = rw (← behind, ← is, ← asked, h)
 
 -- the name between the first two commas
@@ -73,17 +74,17 @@ trigger_as change r was e = rw was e
 pub seen_as : (view : View) (scope : Scope) {v : Scope} {x : Bool} → scope ≡ v → x ≡ is_seen view v → x ≡ is_seen view scope
 seen_as view scope was e = rw was e
 
-pub found_as : (view : View) (row : Row) (name : List ℕ) {v : Row} {x : Found} → row ≡ v → x ≡ found_in view v name → x ≡ found_in view row name
+pub found_as : (view : View) (row : Option Row) (name : List ℕ) {v : Option Row} {x : Result Ref Unfound} → row ≡ v → x ≡ found_in view v name → x ≡ found_in view row name
 found_as view row name was e = rw was e
 
-pub change_as : (row : Row) {v : Row} {x : Change} → row ≡ v → x ≡ change_in v → x ≡ change_in row
+pub change_as : (row : Option Row) {v : Option Row} {x : Change} → row ≡ v → x ≡ change_in v → x ≡ change_in row
 change_as row was e = rw was e
 
 pub changed_as : (x : Trigger) {v : Trigger} {c : Changed} → x ≡ v → c ≡ changed_of v → c ≡ changed_of x
 changed_as x was e = rw was e
 
 -- the kind that a callee told
-pub kind-told : (change : Change) (name : List ℕ) (scope : Scope) (es : List Entry) {k : ℕ} {x : Found} → k ≡ changed_kind change →
+pub kind-told : (change : Change) (name : List ℕ) (scope : Scope) (es : List Entry) {k : ℕ} {x : Result Ref Unfound} → k ≡ changed_kind change →
     x ≡ pick_named k name scope es → x ≡ pick_named (changed_kind change) name scope es
 kind-told change name scope es d e = rw (← d) e
 

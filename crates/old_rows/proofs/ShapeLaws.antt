@@ -1,4 +1,5 @@
 -- The rows of an archive from an offset on: which is the first that is malformed, and how many there are.
+use Rattle.std.specs.Prelude.{Option}
 use Prim.Native.Nat.{ℕ, ◌+◌, ◌-◌, ◌<◌, ◌≤◌}
 use native.Mathlib.Omega.{arith}
 use mathlib.Core.Path.{◌≡◌, ◌∙◌, refl, sym}
@@ -76,7 +77,7 @@ module _ (s : List ℕ) (n at : ℕ) {x : ℕ} (i : malformed_at s n at ≡ x) w
       unfolding malformed_from
       shape_open k = rw (part-read 0x0A s at e h refl, le-ltb most_triggers n few, not-whole s at h e k) at i
 
-      module _ (closed : end ≡ length s → ⊥) {l : List ℕ} (q : l ≡ part_of s at end) {row : Row} (read : row ≡ row_of l) {r : Bool} (asked : r ≡ is_well row) where
+      module _ (closed : end ≡ length s → ⊥) {l : List ℕ} (q : l ≡ part_of s at end) {row : Option Row} (read : row ≡ row_of l) {r : Bool} (asked : r ≡ is_well row) where
         turned : pick r (malformed_at s (n + 1) (end + 1)) n ≡ x
         unfolding malformed_from
         turned =

@@ -8,6 +8,7 @@ use mathlib.Core.List.{List, [], ◌∷◌}
 use lib.ListN.{length, take, drop, get_or, length-append}
 use lib.Dec.{ltb, leb, eqb}
 use borrow.Author.Tests.{leb-true, lt-ltb, eqb-false}
+use Rattle.std.specs.Prelude.{Option, Some, None}
 use Rattle.text.specs.Find.{index_of}
 use Rattle.text.specs.Choice.{within}
 use Rattle.text.specs.Literal.{ascii}
@@ -21,16 +22,17 @@ use Rattle.model.specs.declared.Power.TheVariants.{On, Off}
 use Rattle.model.specs.declared.Aggregate.TheVariants.{AnyOn, AllOff}
 use Rattle.model.specs.declared.Online.TheVariants.{GoesOffline, ComesOnline}
 use Rattle.sheet.specs.Adapters.{has}
-use Rattle.sheet.specs.Kind.{no_kind, kind_of, most_of}
-use Rattle.sheet.specs.Line.{without_return, field, rest, has_comma, is_name, checked_row, read_row, primary_of, adapter_of, party_by, party_of, line_by, bare_line, bare_name, line_of, name_of}
+use Rattle.sheet.specs.Kind.{kind_of, most_of}
+use Rattle.sheet.specs.Line.{without_return, field, rest, has_comma, numeral, is_name, checked_row, read_row, primary_of, adapter_of, party_by, party_of, line_by, bare_line, bare_name, line_of, name_of}
 use Rattle.sheet.specs.Names.{is_for, names_for}
 use Rattle.sheet.specs.Party.{entries_on}
 use Rattle.sheet.specs.Sheet.{Entry, entry_by, entries}
 use Rattle.sheet.specs.View.{View, view_of}
 use Rattle.sheet.specs.declared.Settings.{Settings}
 use Rattle.sheet.specs.declared.line.Line.{Line}
-use Rattle.sheet.specs.declared.line.Line.TheVariants.{Primary, Adapter, Party, Row, Bad}
+use Rattle.sheet.specs.declared.line.Line.TheVariants.{Primary, Adapter, Party, Row}
 use Rattle.sheet.specs.declared.names.Numbered.{Numbered}
+use Rattle.sheet.proofs.LineLaws.{given}
 use Rattle.writing.specs.Pieces.{decimal, decimal_from}
 use Rattle.old_rows.specs.Back.{is_fitting, first_fitting, name_back, kind_word, change_word, row_bytes}
 use Rattle.old_rows.specs.declared.row.Change.{Change}
@@ -39,14 +41,14 @@ use Rattle.old_rows.specs.declared.row.Change.TheVariants.{Lamp, Group, Device, 
 -- ---- the name rule
 
 -- a line with a name has one that keeps the rule
-LineNamed : List ℕ → Line → Type 0
-LineNamed name (Primary a) = Unit {0}
-LineNamed name (Adapter a) = Unit {0}
-LineNamed name (Party a party) = Unit {0}
-LineNamed name (Row kind a n) = is_name name ≡ true
-LineNamed name Bad = Unit {0}
+LineNamed : List ℕ → Option Line → Type 0
+LineNamed name (Some (Primary a)) = Unit {0}
+LineNamed name (Some (Adapter a)) = Unit {0}
+LineNamed name (Some (Party a party)) = Unit {0}
+LineNamed name (Some (Row kind a n)) = is_name name ≡ true
+LineNamed name None = Unit {0}
 
-bad : (name : List ℕ) → LineNamed name Bad
+bad : (name : List ℕ) → LineNamed name None
 unfolding LineNamed
 bad name = tt
 
@@ -65,7 +67,9 @@ party_by-named name a party =
 
 party-named : (name l : List ℕ) → LineNamed name (party_of l)
 unfolding party_of
-party-named name l = picked (LineNamed name) (has_comma l) (λ _. party_by-named name _ _) (λ _. bad name)
+party-named name l = picked (LineNamed name) (has_comma l)
+    (λ _. given (LineNamed name) _ (numeral (field l)) (bad name) (λ a _. given (LineNamed name) _ (numeral (rest l)) (bad name) (λ p _. party_by-named name a p)))
+    (λ _. bad name)
 
 checked-named : (name : List ℕ) (kind a n : ℕ) → LineNamed name (checked_row kind a n name)
 unfolding checked_row LineNamed
@@ -79,19 +83,19 @@ unfolding read_row
 row_named kind l =
     let name = rest (rest l) in
     picked (LineNamed name) (has_comma l)
-    (λ _. picked (LineNamed name) (has_comma (rest l)) (λ _. checked-named name kind _ _) (λ _. bad name))
+    (λ _. picked (LineNamed name) (has_comma (rest l)) (λ _. given (LineNamed name) _ (numeral (field l)) (bad name) (λ a _. given (LineNamed name) _ (numeral (field (rest l))) (bad name) (λ n _. checked-named name kind a n))) (λ _. bad name))
     (λ _. bad name)
 
 by-named : (w l : List ℕ) → LineNamed (rest (rest l)) (line_by w l)
 unfolding line_by
 by-named w l =
     let name = rest (rest l) in
-    picked (LineNamed name) (same_bytes w (ascii "primary")) (λ _. primary-named name _)
+    picked (LineNamed name) (same_bytes w (ascii "primary")) (λ _. given (LineNamed name) _ (numeral l) (bad name) (λ a _. primary-named name a))
     (λ _.
-    picked (LineNamed name) (same_bytes w (ascii "adapter")) (λ _. adapter-named name _)
+    picked (LineNamed name) (same_bytes w (ascii "adapter")) (λ _. given (LineNamed name) _ (numeral l) (bad name) (λ a _. adapter-named name a))
     (λ _.
     picked (LineNamed name) (same_bytes w (ascii "party")) (λ _. party-named name l)
-    (λ _. picked (LineNamed name) (eqb (kind_of w) no_kind) (λ _. bad name) (λ _. row_named (kind_of w) l))))
+    (λ _. given (LineNamed name) _ (kind_of w) (bad name) (λ kind _. row_named kind l))))
 
 bare-named : (l : List ℕ) → LineNamed (bare_name l) (bare_line l)
 unfolding bare_line bare_name
@@ -149,14 +153,14 @@ pub record RowName (name : List ℕ) : Type 0 where
   pub rule : is_name name ≡ true
   pub no_feed : Without 0x0A name
 
-entry_named : (l : Line) (name : List ℕ) {es : List Entry} → LineNamed name l → Without 0x0A name → Each (λ (e : Entry). RowName e.name) es →
+entry_named : (l : Option Line) (name : List ℕ) {es : List Entry} → LineNamed name l → Without 0x0A name → Each (λ (e : Entry). RowName e.name) es →
     Each (λ (e : Entry). RowName e.name) (entry_by l name es)
 unfolding LineNamed
-entry_named (Primary a) name h w hs = hs
-entry_named (Adapter a) name h w hs = hs
-entry_named (Party a party) name h w hs = hs
-entry_named (Row kind a n) name h w hs = Each.more (record { rule = h; no_feed = w }) hs
-entry_named Bad name h w hs = hs
+entry_named (Some (Primary a)) name h w hs = hs
+entry_named (Some (Adapter a)) name h w hs = hs
+entry_named (Some (Party a party)) name h w hs = hs
+entry_named (Some (Row kind a n)) name h w hs = Each.more (record { rule = h; no_feed = w }) hs
+entry_named None name h w hs = hs
 
 rows_named : {ls : List (List ℕ)} → Each (Without 0x0A) ls → Each (λ (e : Entry). RowName e.name) (entries ls)
 unfolding entries

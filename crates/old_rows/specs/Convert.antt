@@ -1,5 +1,5 @@
 -- Rows converted to triggers (document 02, §10): the whole call, as one function of the party and its primary adapter, the rows and the sheet.
-use Rattle.std.specs.Prelude.{ℕ, ◌+◌, ◌-◌, List, [], ◌∷◌, Bool, true, false, length, get_or, ltb, eqb}
+use Rattle.std.specs.Prelude.{ℕ, ◌+◌, ◌-◌, List, [], ◌∷◌, Bool, true, false, length, get_or, ltb, eqb, Option, Some, None, Result, Ok, Err}
 use Rattle.text.specs.Choice.{pick}
 use Rattle.model.specs.Lists.{accepted_with, refused_with}
 use Rattle.model.specs.declared.Ref.{Ref}
@@ -9,23 +9,21 @@ use Rattle.model.specs.declared.Answer.{Answer}
 use Rattle.sheet.specs.Kind.{no_kind, lamp_kind, group_kind, device_kind}
 use Rattle.sheet.specs.Sheet.{Sheet, well_formed, bad_line_rule, sheet_check, lines}
 use Rattle.sheet.specs.View.{View, seen, own_primary}
-use Rattle.sheet.specs.Resolve.{pick_named}
+use Rattle.sheet.specs.Resolve.{not_found, pick_named}
 use Rattle.sheet.specs.declared.resolve.Scope.{Scope}
-use Rattle.sheet.specs.declared.resolve.Found.{Found}
-use Rattle.sheet.specs.declared.resolve.Found.TheVariants.{One, Refused}
+use Rattle.sheet.specs.declared.resolve.Unfound.{Unfound}
 use Rattle.language.specs.Limits.{most_triggers}
 use Rattle.language.specs.Read.{rule_call}
 use Rattle.old_rows.specs.Row.{row_of, row_name}
 use Rattle.old_rows.specs.declared.row.Change.{Change}
 use Rattle.old_rows.specs.declared.row.Change.TheVariants.{Lamp, Group, Device, Unknown}
 use Rattle.old_rows.specs.declared.row.Row.{Row}
-use Rattle.old_rows.specs.declared.row.Row.TheVariants.{Says, Malformed}
 
 -- ---- the shape of the rows
 
-unfoldable pub is_well : Row → Bool
-is_well (Says change scope) = true
-is_well Malformed = false
+unfoldable pub is_well : Option Row → Bool
+is_well (Some row) = true
+is_well None = false
 
 -- "A row ends with LF": so does the last
 unfoldable pub is_ended : List ℕ → Bool
@@ -66,17 +64,17 @@ is_seen view Scope.Any = true
 is_seen view (Scope.On a) = view.listed a
 
 -- "through the name rules (25, then 31 to 34)"
-unfoldable pub found_of : View → Change → Scope → List ℕ → Found
-found_of view change scope name = pick (is_seen view scope) (pick_named (changed_kind change) name scope view.rows) (Refused 25 0)
+unfoldable pub found_of : View → Change → Scope → List ℕ → Result Ref Unfound
+found_of view change scope name = pick (is_seen view scope) (pick_named (changed_kind change) name scope view.rows) (not_found 25 0)
 
 -- what is found, and the change: a row that is malformed is refused before any name is looked up
-unfoldable pub found_in : View → Row → List ℕ → Found
-found_in view (Says change scope) name = found_of view change scope name
-found_in view Malformed name = Refused 60 0
+unfoldable pub found_in : View → Option Row → List ℕ → Result Ref Unfound
+found_in view (Some row) name = found_of view row.change row.scope name
+found_in view None name = not_found 60 0
 
-unfoldable pub change_in : Row → Change
-change_in (Says change scope) = change
-change_in Malformed = Unknown
+unfoldable pub change_in : Option Row → Change
+change_in (Some row) = row.change
+change_in None = Unknown
 
 -- ---- the rows one by one
 
@@ -89,9 +87,9 @@ unfoldable pub onto : Trigger → Conversion → Conversion
 onto x (converted xs) = converted (x ∷ xs)
 onto x (stopped number row detail) = stopped number row detail
 
-unfoldable pub by_found : ℕ → Change → Found → Conversion → Conversion
-by_found n change (One adapter number) others = onto (trigger_by change (record { adapter = adapter; number = number })) others
-by_found n change (Refused number detail) others = stopped number n detail
+unfoldable pub by_found : ℕ → Change → Result Ref Unfound → Conversion → Conversion
+by_found n change (Ok r) others = onto (trigger_by change r) others
+by_found n change (Err e) others = stopped e.number n e.detail
 
 -- "row by row (25, then 31 to 34, at the row, column 0)"
 unfoldable pub convert_from : View → ℕ → List (List ℕ) → Conversion

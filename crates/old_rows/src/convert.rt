@@ -8,23 +8,17 @@ ghost use Rattle.old_rows.specs.Convert.{is_well, first_malformed, changed_kind,
 use crate::row;
 use crate::row::{Change, Row};
 use model::{Answer, Ref, Trigger, TriggerRow};
-use sheet::resolve::{Found, Scope};
-use sheet::rows::Verdict;
-use sheet::{Habit, Settings, adapters, kind, resolve};
+use sheet::resolve::{Scope, Unfound};
+use sheet::{Habit, Settings, View, adapters, kind};
 
 // How many rows there may be.
 const MAX_ROWS: u32 = 4;
 
-fn is_well(r: Row) -> bool
+#[tactic(auto, unfolding(crate::specs::Convert::is_well))]
+fn is_well(r: Option<Row>) -> bool
     ensures { result ≡ is_well r }
 {
-    match r {
-        Row::Says {
-            change: _,
-            scope: _,
-        } => true,
-        Row::Malformed => false,
-    }
+    r.is_some()
 }
 
 // The first malformed or fifth row, from 1 on; 0 where there is none. A last row without LF is malformed.
@@ -32,6 +26,7 @@ fn first_malformed(s: &[u8]) -> u32
     ensures { result ≡ first_malformed s.now }
 {
     let mut n: u32 = 1;
+    // A row begins behind the LF that ends the one before it: no step is the same, so no `for` counts them.
     let mut at = 0;
     while at < s.len() {
         if MAX_ROWS < n {
@@ -51,6 +46,7 @@ fn first_malformed(s: &[u8]) -> u32
 }
 
 // The kind of what changes.
+#[tactic(auto, unfolding(crate::specs::Convert::changed_kind, sheet::specs::Kind::no_kind, sheet::specs::Kind::lamp_kind, sheet::specs::Kind::group_kind, sheet::specs::Kind::device_kind))]
 pub fn changed_kind(change: Change) -> u32
     ensures { result ≡ changed_kind change }
 {
@@ -62,6 +58,7 @@ pub fn changed_kind(change: Change) -> u32
     }
 }
 
+#[tactic(auto, unfolding(crate::specs::Convert::trigger_by))]
 fn trigger_by(change: Change, r: Ref) -> Trigger
     ensures { result ≡ trigger_by change r }
 {
@@ -74,67 +71,72 @@ fn trigger_by(change: Change, r: Ref) -> Trigger
 }
 
 // Is the adapter that is named, if one is, listed?
-fn is_seen(sheet: &[u8], settings: Settings, scope: Scope) -> bool
-    ensures { result ≡ is_seen (view_of settings sheet.now) scope }
+#[tactic(auto, unfolding(crate::specs::Convert::is_seen, sheet::specs::View::view_of))]
+fn is_seen(view: &View<'_>, scope: Scope) -> bool
+    ensures { result ≡ is_seen (view_of view.now.settings view.now.sheet.now) scope }
 {
     match scope {
         Scope::Any => true,
-        Scope::On(a) => sheet::rows::adapter_exists(sheet, settings, a),
+        Scope::On(a) => view.adapter_exists(a),
     }
 }
 
-fn found_of(sheet: &[u8], settings: Settings, change: Change, scope: Scope, name: &[u8]) -> Found
-    ensures { result ≡ found_of (view_of settings sheet.now) change scope name.now }
+#[tactic(auto, unfolding(crate::specs::Convert::found_of, sheet::specs::View::view_of))]
+fn found_of(view: &View<'_>, change: Change, scope: Scope, name: &[u8]) -> Result<Ref, Unfound>
+    ensures { result ≡ found_of (view_of view.now.settings view.now.sheet.now) change scope name.now }
 {
-    if is_seen(sheet, settings, scope) {
-        return resolve::pick_named(sheet, settings, changed_kind(change), name, scope);
+    if is_seen(view, scope) {
+        return view.pick_named(changed_kind(change), name, scope);
     }
-    Found::Refused {
+    Err(Unfound {
         number: 25,
         detail: 0,
-    }
+    })
 }
 
 // What a row's name picks.
-fn found_in(sheet: &[u8], settings: Settings, r: Row, name: &[u8]) -> Found
-    ensures { result ≡ found_in (view_of settings sheet.now) r name.now }
+#[tactic(auto, unfolding(crate::specs::Convert::found_in))]
+fn found_in(view: &View<'_>, r: Option<Row>, name: &[u8]) -> Result<Ref, Unfound>
+    ensures { result ≡ found_in (view_of view.now.settings view.now.sheet.now) r name.now }
 {
     match r {
-        Row::Says { change, scope } => found_of(sheet, settings, change, scope, name),
-        Row::Malformed => Found::Refused {
+        Some(row) => found_of(view, row.change, row.scope, name),
+        None => Err(Unfound {
             number: 60,
             detail: 0,
-        },
+        }),
     }
 }
 
-fn change_in(r: Row) -> Change
+#[tactic(auto, unfolding(crate::specs::Convert::change_in))]
+fn change_in(r: Option<Row>) -> Change
     ensures { result ≡ change_in r }
 {
     match r {
-        Row::Says { change, scope: _ } => change,
-        Row::Malformed => Change::Unknown,
+        Some(row) => row.change,
+        None => Change::Unknown,
     }
 }
 
 // The triggers of at most four rows, or the refusal of the first that names none.
-fn convert_rows(s: &[u8], sheet: &[u8], settings: Settings) -> Answer
+fn convert_rows(s: &[u8], view: &View<'_>) -> Answer
     requires { length (lines s.now) ≤ most_triggers }
-    ensures { result ≡ answered (convert_from (view_of settings sheet.now) 1 (lines s.now)) }
+    ensures { result ≡ answered (convert_from (view_of view.now.settings view.now.sheet.now) 1 (lines s.now)) }
 {
     let mut list = model::no_triggers();
+    // From row to row, as in first_malformed.
     let mut at = 0;
     while at < s.len() {
         let end = sheet::rows::line_end(s, at);
         let l = text::part::part(s, at, end);
         let r = row::row_of(l);
-        let found = found_in(sheet, settings, r, row::row_name(l));
+        let found = found_in(view, r, row::row_name(l));
         match found {
-            Found::Refused { number, detail } => {
-                return model::refused(number, list.count as u32 + 1, 0, detail);
+            Err(e) => {
+                return model::refused(e.number, list.count as u32 + 1, 0, e.detail);
             }
-            Found::One { adapter, number } => {
-                let trigger = trigger_by(change_in(r), Ref { adapter, number });
+            Ok(of) => {
+                let trigger = trigger_by(change_in(r), of);
                 let i = list.count;
                 list.rows[i] = TriggerRow { trigger };
                 list.count = i + 1;
@@ -153,15 +155,15 @@ fn convert_rows(s: &[u8], sheet: &[u8], settings: Settings) -> Answer
 }
 
 // The call where its primary adapter is its party's: are the rows well formed?
-fn convert_well(s: &[u8], sheet: &[u8], settings: Settings) -> Answer
-    ensures { result ≡ by_shape (view_of settings sheet.now) s.now }
+fn convert_well(s: &[u8], view: &View<'_>) -> Answer
+    ensures { result ≡ by_shape (view_of view.now.settings view.now.sheet.now) s.now }
 {
-    if s.len() == 0 {
+    if s.is_empty() {
         return model::refused(60, 0, 0, 0);
     }
     let n = first_malformed(s);
     if n == 0 {
-        return convert_rows(s, sheet, settings);
+        return convert_rows(s, view);
     }
     model::refused(60, n, 0, 0)
 }
@@ -171,23 +173,20 @@ pub fn convert(s: &[u8], sheet: &[u8], party: u8, primary: u8) -> Answer
     ensures { result ≡ rows_of party primary s.now sheet.now }
 {
     let adapter = primary as u32;
-    let survey = sheet::rows::check(sheet, party as u32);
-    let said = survey.said;
-    let own = said.own;
-    let listed = said.listed;
-    let verdict = survey.verdict;
-    match verdict {
-        Verdict::BadLine(n) => model::refused(3, n, 0, 0),
-        Verdict::WellFormed => {
-            if adapters::has(own, adapter) {
+    match sheet::rows::check(sheet, party as u32) {
+        Err(bad) => model::refused(3, bad.line, 0, 0),
+        Ok(said) => {
+            if adapters::has(said.own, adapter) {
                 return convert_well(
                     s,
-                    sheet,
-                    Settings {
-                        primary: adapter,
-                        habit: Habit::Rule,
-                        own,
-                        listed,
+                    &View {
+                        sheet,
+                        settings: Settings {
+                            primary: adapter,
+                            habit: Habit::Rule,
+                            own: said.own,
+                            listed: said.listed,
+                        },
                     },
                 );
             }

@@ -12,11 +12,10 @@ use crate::row::Change;
 use crate::{convert, name, row};
 use model::{Aggregate, Online, Power, Ref, Trigger, TriggerRow, Triggers};
 use sheet::names::Numbered;
-use sheet::rows::Verdict;
-use sheet::{Habit, Settings, adapters};
+use sheet::{Habit, Settings, View, adapters};
 use spelling::numbers;
 use spelling::put::put;
-use writing::Written;
+use writing::{Written, failing};
 
 // How many bytes the buffer has at least, and how many four rows have at most.
 pub const LEAST_BYTES: usize = 512;
@@ -32,6 +31,7 @@ pub struct Changed {
     pub of: Numbered,
 }
 
+#[tactic(auto, unfolding(crate::specs::Back::changed_by))]
 fn changed_by(change: Change, r: Ref) -> Changed
     ensures { result ≡ changed_by change r }
 {
@@ -46,6 +46,7 @@ fn changed_by(change: Change, r: Ref) -> Changed
 }
 
 // A trigger that no row says.
+#[tactic(auto, unfolding(crate::specs::Back::other))]
 fn other() -> Changed
     ensures { result ≡ other }
 {
@@ -58,6 +59,7 @@ fn other() -> Changed
     )
 }
 
+#[tactic(auto, unfolding(crate::specs::Back::changed_of))]
 fn changed_of(x: Trigger) -> Changed
     ensures { result ≡ changed_of x }
 {
@@ -65,66 +67,30 @@ fn changed_of(x: Trigger) -> Changed
         Trigger::LampTurns(r, power) => changed_by(Change::Lamp(power), r),
         Trigger::GroupBecomes(r, state) => changed_by(Change::Group(state), r),
         Trigger::DeviceOnline(r, state) => changed_by(Change::Device(state), r),
-        Trigger::InputEvent(_, _) => other(),
-        Trigger::InputOccupancy(_, _) => other(),
-        Trigger::InputLightCross(_, _, _) => other(),
-        Trigger::InputPositionChange(_) => other(),
-        Trigger::InputDevicePowerCycled(_) => other(),
-        Trigger::InputDeviceManualConfigChanged(_) => other(),
-        Trigger::AtTime(_, _) => other(),
-        Trigger::AtSolar(_, _, _) => other(),
-        Trigger::Every(_) => other(),
-        Trigger::LampLevelCross(_, _, _) => other(),
-        Trigger::SceneRecalled(_, _) => other(),
-        Trigger::HclOverride(_, _) => other(),
-        Trigger::TimerFires(_) => other(),
-        Trigger::ControllerStarts => other(),
-        Trigger::ControllerBecomesActive => other(),
-        Trigger::RuleFails(_) => other(),
-        Trigger::HttpTrigger => other(),
-        Trigger::MqttMessage(_) => other(),
+        _ => other(),
     }
 }
 
+#[tactic(auto, unfolding(crate::specs::Back::is_change))]
 fn is_change(x: TriggerRow) -> bool
     ensures { result ≡ is_change x }
 {
-    let trigger = x.trigger;
-    let changed = changed_of(trigger);
-    let change = changed.change;
-    row::is_known(change)
+    row::is_known(changed_of(x.trigger).change)
 }
 
-// The ordinal of the first trigger that no row says, or 0.
-fn other_trigger(l: Triggers) -> u32
-    requires { l.count ≤ most_triggers }
-    ensures { result ≡ failing is_change 1 (take l.count l.rows) }
-{
-    let mut i: usize = 0;
-    while i < l.count {
-        let x = l.rows[i];
-        if !is_change(x) {
-            return 1 + i as u32;
-        }
-        i += 1;
-    }
-    0
-}
-
-// The same of all entries: every condition is one.
+// The ordinal of the first entry that no row says, triggers first, or 0: every condition is one.
 fn first_other(l: Triggers, conditions: usize) -> u32
     requires { l.count ≤ most_triggers }
     ensures { result ≡ first_other l conditions }
 {
-    let count = l.count;
-    let at = other_trigger(l);
+    let at = failing(&l.rows[..l.count], 1, |x| is_change(*x));
     if at != 0 {
         return at;
     }
     if conditions == 0 {
         return 0;
     }
-    count as u32 + 1
+    l.count as u32 + 1
 }
 
 fn put_kind(out: &mut [u8], at: usize, change: Change) -> usize
@@ -200,43 +166,26 @@ fn put_row(out: &mut [u8], at: usize, change: Change, name: &[u8], adapter: u32)
     put_change(out, k, change)
 }
 
-// The rows that were made: their length, or the ordinal of the first trigger without a name.
-#[derive(Clone, Copy)]
-pub struct Rows {
-    pub unnamed: u32,
-    pub length: usize,
-}
-
-// Makes the rows. One name is looked up for each.
-fn make_rows(made: &mut [u8], sheet: &[u8], settings: Settings, l: Triggers) -> Rows
+// Makes the rows, and gives their length, or else the ordinal of the first trigger without a name. One name is looked up for each.
+fn make_rows(made: &mut [u8], view: &View<'_>, l: Triggers) -> Result<usize, u32>
     requires { (l.count ≤ most_triggers) × (length made.old ≡ most_bytes) }
-    ensures { RowsMade (view_of settings sheet.now) (take l.count l.rows) result made.old made.new }
+    ensures { RowsMade (view_of view.now.settings view.now.sheet.now) (take l.count l.rows) result made.old made.new }
 {
     let mut end: usize = 0;
-    let mut i: usize = 0;
-    while i < l.count {
-        let x = l.rows[i];
-        let trigger = x.trigger;
-        let changed = changed_of(trigger);
-        let change = changed.change;
-        let of = changed.of;
-        let name = name::name_back(sheet, settings, of);
-        if name.len() == 0 {
-            return Rows {
-                unnamed: 1 + i as u32,
-                length: 0,
-            };
+    let rows = &l.rows[..l.count];
+    for (i, x) in rows.iter().enumerate() {
+        let changed = changed_of(x.trigger);
+        let name = name::name_back(view, changed.of);
+        if name.is_empty() {
+            return Err(1 + i as u32);
         }
-        end = put_row(made, end, change, name, of.adapter);
-        i += 1;
+        end = put_row(made, end, changed.change, name, changed.of.adapter);
     }
-    Rows {
-        unnamed: 0,
-        length: end,
-    }
+    Ok(end)
 }
 
 // A refusal at a line of the sheet, or at an entry.
+#[tactic(auto, unfolding(writing::specs::Writing::refused_at))]
 fn refused(number: u32, line: u32) -> Written
     ensures { result ≡ (refused_at number line []).answer }
 {
@@ -250,34 +199,29 @@ fn refused(number: u32, line: u32) -> Written
 }
 
 // The call where each entry is a change: has each a name?
-fn back_changes(sheet: &[u8], settings: Settings, l: Triggers, out: &mut [u8]) -> Written
+fn back_changes(view: &View<'_>, l: Triggers, out: &mut [u8]) -> Written
     requires { (least_bytes ≤ length out.old) × (l.count ≤ most_triggers) }
-    ensures { (result ≡ (by_names (view_of settings sheet.now) l out.old).answer) × (out.new ≡ (by_names (view_of settings sheet.now) l out.old).buffer) }
+    ensures { (result ≡ (by_names (view_of view.now.settings view.now.sheet.now) l out.old).answer) × (out.new ≡ (by_names (view_of view.now.settings view.now.sheet.now) l out.old).buffer) }
 {
     let mut made = [0u8; MOST_BYTES];
-    let rows = make_rows(&mut made, sheet, settings, l);
-    if rows.unnamed == 0 {
-        out[..rows.length].copy_from_slice(&made[..rows.length]);
-        return Written {
-            number: 0,
-            line: 0,
-            column: 0,
-            detail: 0,
-            length: rows.length as u32,
-        };
+    match make_rows(&mut made, view, l) {
+        Ok(length) => {
+            out[..length].copy_from_slice(&made[..length]);
+            Written {
+                number: 0,
+                line: 0,
+                column: 0,
+                detail: 0,
+                length: length as u32,
+            }
+        }
+        Err(unnamed) => refused(62, unnamed),
     }
-    refused(62, rows.unnamed)
 }
 
 // The call where its primary adapter is its party's: is there room, and is each entry a change?
-fn back_lists(
-    sheet: &[u8],
-    settings: Settings,
-    l: Triggers,
-    conditions: usize,
-    out: &mut [u8],
-) -> Written
-    ensures { (result ≡ (by_room (view_of settings sheet.now) l conditions out.old true).answer) × (out.new ≡ (by_room (view_of settings sheet.now) l conditions out.old true).buffer) }
+fn back_lists(view: &View<'_>, l: Triggers, conditions: usize, out: &mut [u8]) -> Written
+    ensures { (result ≡ (by_room (view_of view.now.settings view.now.sheet.now) l conditions out.old true).answer) × (out.new ≡ (by_room (view_of view.now.settings view.now.sheet.now) l conditions out.old true).buffer) }
 {
     if out.len() < LEAST_BYTES {
         return refused(54, 0);
@@ -290,7 +234,7 @@ fn back_lists(
     }
     let at = first_other(l, conditions);
     if at == 0 {
-        return back_changes(sheet, settings, l, out);
+        return back_changes(view, l, out);
     }
     refused(61, at)
 }
@@ -309,22 +253,19 @@ pub fn back(
     ensures buffer { out.new ≡ (back_of party primary sheet.now l conditions out.old).buffer }
 {
     let adapter = primary as u32;
-    let survey = sheet::rows::check(sheet, party as u32);
-    let said = survey.said;
-    let own = said.own;
-    let listed = said.listed;
-    let verdict = survey.verdict;
-    match verdict {
-        Verdict::BadLine(n) => refused(3, n),
-        Verdict::WellFormed => {
-            if adapters::has(own, adapter) {
+    match sheet::rows::check(sheet, party as u32) {
+        Err(bad) => refused(3, bad.line),
+        Ok(said) => {
+            if adapters::has(said.own, adapter) {
                 return back_lists(
-                    sheet,
-                    Settings {
-                        primary: adapter,
-                        habit: Habit::Rule,
-                        own,
-                        listed,
+                    &View {
+                        sheet,
+                        settings: Settings {
+                            primary: adapter,
+                            habit: Habit::Rule,
+                            own: said.own,
+                            listed: said.listed,
+                        },
                     },
                     l,
                     conditions,

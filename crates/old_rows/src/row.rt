@@ -17,11 +17,12 @@ pub enum Change {
 
 // A change of what has the row's name, on one adapter or on any.
 #[derive(Clone, Copy)]
-pub enum Row {
-    Says { change: Change, scope: Scope },
-    Malformed,
+pub struct Row {
+    pub change: Change,
+    pub scope: Scope,
 }
 
+#[tactic(auto, unfolding(crate::specs::Row::lamp_change))]
 fn lamp_change(w: &[u8]) -> Change
     ensures { result ≡ lamp_change w.now }
 {
@@ -34,6 +35,7 @@ fn lamp_change(w: &[u8]) -> Change
     Change::Unknown
 }
 
+#[tactic(auto, unfolding(crate::specs::Row::group_change))]
 fn group_change(w: &[u8]) -> Change
     ensures { result ≡ group_change w.now }
 {
@@ -46,6 +48,7 @@ fn group_change(w: &[u8]) -> Change
     Change::Unknown
 }
 
+#[tactic(auto, unfolding(crate::specs::Row::device_change))]
 fn device_change(w: &[u8]) -> Change
     ensures { result ≡ device_change w.now }
 {
@@ -59,6 +62,7 @@ fn device_change(w: &[u8]) -> Change
 }
 
 // The change that a kind and a word say.
+#[tactic(auto, unfolding(crate::specs::Row::change_of))]
 fn change_of(k: &[u8], w: &[u8]) -> Change
     ensures { result ≡ change_of k.now w.now }
 {
@@ -74,78 +78,76 @@ fn change_of(k: &[u8], w: &[u8]) -> Change
     Change::Unknown
 }
 
+#[tactic(auto, unfolding(crate::specs::Row::is_known))]
 pub fn is_known(change: Change) -> bool
     ensures { result ≡ is_known change }
 {
-    match change {
-        Change::Lamp(_) => true,
-        Change::Group(_) => true,
-        Change::Device(_) => true,
-        Change::Unknown => false,
-    }
+    !matches!(change, Change::Unknown)
 }
 
-fn on_adapter(change: Change, a: u32) -> Row
+#[tactic(auto, unfolding(crate::specs::Row::on_adapter, model::specs::Limits::last_adapter))]
+fn on_adapter(change: Change, a: Option<u32>) -> Option<Row>
     ensures { result ≡ on_adapter change a }
 {
-    if a <= limits::MAX_ADAPTER {
-        return Row::Says {
+    match a {
+        Some(a) if a <= limits::MAX_ADAPTER => Some(Row {
             change,
             scope: Scope::On(a),
-        };
+        }),
+        _ => None,
     }
-    Row::Malformed
 }
 
 // A change with the adapter's field, which may be empty.
-fn scoped(change: Change, a: &[u8]) -> Row
+#[tactic(auto, unfolding(crate::specs::Row::scoped), using(crate::proofs::RowLaws::by_number))]
+fn scoped(change: Change, a: &[u8]) -> Option<Row>
     ensures { result ≡ scoped change a.now }
 {
-    if a.len() == 0 {
-        return Row::Says {
+    if a.is_empty() {
+        return Some(Row {
             change,
             scope: Scope::Any,
-        };
+        });
     }
     on_adapter(change, line::decimal(a))
 }
 
 // A row of a kind, from behind the name's comma.
-fn behind_name(k: &[u8], l: &[u8]) -> Row
+fn behind_name(k: &[u8], l: &[u8]) -> Option<Row>
     ensures { result ≡ behind_name k.now l.now }
 {
     let at = line::comma(l);
     if l.len() <= at {
-        return Row::Malformed;
+        return None;
     }
     let change = change_of(k, &l[at + 1..]);
     if is_known(change) {
         return scoped(change, &l[..at]);
     }
-    Row::Malformed
+    None
 }
 
 // A row of a kind, from behind the kind's comma.
-fn behind_kind(k: &[u8], l: &[u8]) -> Row
+fn behind_kind(k: &[u8], l: &[u8]) -> Option<Row>
     ensures { result ≡ behind_kind k.now l.now }
 {
     let at = line::comma(l);
     if l.len() <= at {
-        return Row::Malformed;
+        return None;
     }
     if line::is_name(&l[..at]) {
         return behind_name(k, &l[at + 1..]);
     }
-    Row::Malformed
+    None
 }
 
-// What a row without its LF says.
-pub fn row_of(l: &[u8]) -> Row
+// What a row without its LF says; None of a malformed one.
+pub fn row_of(l: &[u8]) -> Option<Row>
     ensures { result ≡ row_of l.now }
 {
     let at = line::comma(l);
     if l.len() <= at {
-        return Row::Malformed;
+        return None;
     }
     behind_kind(&l[..at], &l[at + 1..])
 }

@@ -1,3 +1,2 @@
 pub mod PossibleLaws
-pub mod ReachedLaws
 pub mod ListLaws

@@ -1,5 +1,4 @@
 pub mod LoopLaws
 pub mod SectionLaws
-pub mod RuleLaws
 pub mod ReadLaws
 pub mod ProfileLaws

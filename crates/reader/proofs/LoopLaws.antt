@@ -9,9 +9,8 @@ use Rattle.tokens.specs.Result.{Res, ok, no, bind, refuse}
 use Rattle.tokens.specs.Cursor.{Tok, is_word, accepted}
 use Rattle.tokens.specs.declared.cursor.Cursor.{Cursor}
 use Rattle.tokens.specs.declared.cursor.Refusal.{Refusal}
-use Rattle.tokens.specs.declared.cursor.Accepted.{Accepted}
-use Rattle.tokens.specs.declared.cursor.Accepted.TheVariants.{Yes, Left}
 use Rattle.language.specs.Section.{repeated}
+use Rattle.std.specs.Prelude.{Option, Some, None}
 
 -- entries xs before those that are answered
 abbrev pub onto : {A : Type 0} → List A → Res (List A) → Res (List A)
@@ -105,23 +104,23 @@ module _ {S A L : Type 0} (of : List A → L) (with : L → A → L) (count : L 
           }
 
 -- what the test for an optional token shows
-abbrev index_of : Accepted → ℕ
-index_of (Yes c) = c.index
-index_of Left = 0
+abbrev index_of : Option Cursor → ℕ
+index_of (Some c) = c.index
+index_of None = 0
 
-never : {c : Cursor} → Yes c ≡ Left → ⊥
+never : {c : Cursor} → Some c ≡ None → ⊥
 never e = let z : ◌≡◌ {A = ℕ} 1 0 = ap tag e in omega arith
   where
-    tag : Accepted → ℕ
-    tag (Yes c) = 1
-    tag Left = 0
+    tag : Option Cursor → ℕ
+    tag (Some c) = 1
+    tag None = 0
 
-pub was_left : (b : Bool) (i : ℕ) {a : Accepted} → a ≡ accepted b i → a ≡ Left → b ≡ false
+pub was_left : (b : Bool) (i : ℕ) {a : Option Cursor} → a ≡ accepted b i → a ≡ None → b ≡ false
 unfolding accepted
 was_left true i e m = absurd (never (sym e ∙ m))
 was_left false i e m = refl
 
-pub was_there : (b : Bool) (i : ℕ) {a : Accepted} {c : Cursor} → a ≡ accepted b i → a ≡ Yes c → (b ≡ true) × (c.index ≡ i + 1)
+pub was_there : (b : Bool) (i : ℕ) {a : Option Cursor} {c : Cursor} → a ≡ accepted b i → a ≡ Some c → (b ≡ true) × (c.index ≡ i + 1)
 unfolding accepted
 was_there true i e m = (refl, ap index_of (sym m ∙ e))
 was_there false i e m = absurd (never (sym m ∙ e))

@@ -1,11 +1,11 @@
 -- The rule in the records by the habit of the call: under the shop profile it is judged where it is accepted without, and in any other call there is
 -- nothing to judge.
 use Prim.Native.Nat.{ℕ}
-use mathlib.Core.Path.{◌≡◌, refl}
-use mathlib.Core.Bool.{true, false}
+use mathlib.Core.Path.{◌≡◌}
+use mathlib.Core.Bool.{true}
 use mathlib.Core.List.{List}
 use lib.ListN.{length}
-use Rattle.tokens.specs.Result.{Res, ok, no}
+use Rattle.tokens.specs.Result.{Res}
 use Rattle.sheet.specs.View.{may_repeat, any_form, view_of}
 use Rattle.sheet.specs.declared.Habit.{Habit}
 use Rattle.sheet.specs.declared.Settings.{Settings}
@@ -17,18 +17,8 @@ use Rattle.language.proofs.ProfileTheorem.{profiled}
 use Rattle.model.specs.declared.Answer.{Answer}
 use Rattle.reader.specs.Parts.{with_habit, to_rule}
 use Rattle.reader.specs.declared.parts.Rule.{Rule}
-use Rattle.reader.proofs.RuleLaws.{one_answer}
-
--- what is answered without the profile is accepted or refused
-accepted-yes : (full judged : Res Lists) → (to_rule full).accepted ≡ true → on_accepted full judged ≡ judged
-unfolding to_rule on_accepted
-accepted-yes (ok lists i) judged h = refl
-accepted-yes (no r) judged h = absurd (one_answer h refl)
-
-accepted-no : (full judged : Res Lists) → (to_rule full).accepted ≡ false → on_accepted full judged ≡ full
-unfolding to_rule on_accepted
-accepted-no (ok lists i) judged h = absurd (one_answer refl h)
-accepted-no (no r) judged h = refl
+use Rattle.tokens.specs.declared.cursor.Refusal.{Refusal}
+use Rattle.std.specs.Prelude.{Result}
 
 -- what is seen with a habit: nothing is lost where any form may stand, and the default call sees what the shop's sees, with any form anywhere
 any_seen : (settings : Settings) (sheet : List ℕ) → any_form settings.habit ≡ true → anywhere (view_of settings sheet) ≡ view_of settings sheet
@@ -49,22 +39,8 @@ module _ (settings : Settings) (text words sheet : List ℕ) (lent : List (List 
   abbrev read_by : Habit → Res Lists
   read_by habit = rule_in text words (view_of (with_habit habit settings) sheet) lent
 
-  -- the two readings, one behind the other
-  module _ {full : Settings} {first : Rule} (is-full : full ≡ with_habit Habit.Rule settings)
-      (read : first ≡ to_rule (rule_in text words (view_of full sheet) lent)) where
-    first-is : first ≡ to_rule (read_by Habit.Rule)
-    first-is = rw (← is-full) read
-
-    pub profiled-yes : {strict : Settings} {second : Rule} → strict ≡ with_habit Habit.Shop settings → first.accepted ≡ true →
-        second ≡ to_rule (rule_in text words (view_of strict sheet) lent) → second ≡ to_rule (on_accepted (read_by Habit.Rule) (read_by Habit.Shop))
-    profiled-yes is-strict h e =
-        rw (accepted-yes (read_by Habit.Rule) (read_by Habit.Shop) (rw first-is at h), ← is-strict) e
-
-    pub profiled-no : first.accepted ≡ false → first ≡ to_rule (on_accepted (read_by Habit.Rule) (read_by Habit.Shop))
-    profiled-no h = rw (accepted-no (read_by Habit.Rule) (read_by Habit.Shop) (rw first-is at h)) first-is
-
   -- in a call where any form may stand, both are the same
-  module _ {rule : Rule} where
+  module _ {rule : Result Rule Refusal} where
     any_form_lem : any_form settings.habit ≡ true → rule ≡ to_rule (rule_in text words (view_of settings sheet) lent) →
         rule ≡ to_rule (rule_of text words (view_of settings sheet) lent)
     unfolding rule_of

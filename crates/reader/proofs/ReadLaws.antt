@@ -1,36 +1,35 @@
 -- The call's questions one after the other are the definition of the whole call: what the parser reads from the buffer is what the text gives.
+use Rattle.std.specs.Prelude.{Result, Ok, Err}
 use Prim.Native.Nat.{ℕ, ◌*◌, ◌<◌, ◌≤◌}
 use native.Mathlib.Omega.{arith}
 use mathlib.Core.Path.{◌≡◌, refl, sym, ap, ◌∙◌, subst}
 use mathlib.Core.Bool.{Bool, true, false}
-use mathlib.Core.List.{List, []}
+use mathlib.Core.List.{List}
 use lib.ListN.{length, take}
 use lib.Seq.{length-take-le}
 use lib.Dec.{ltb}
 use borrow.Author.Tests.{le-ltb, lt-ltb, ltb-true, ltb-false}
 use mir.Syntax.{w8, w64}
 use mir.Val.{Fits}
+use Rattle.std.specs.Prelude.{Result, Ok, Err}
 use Rattle.text.specs.Choice.{pick}
 use Rattle.text.proofs.Tests.{lt_yes, lt_no}
 use Rattle.text.specs.Place.{check_of}
-use Rattle.text.specs.declared.place.Checked.{Checked}
-use Rattle.text.specs.declared.place.Checked.TheVariants.{WellFormed, IllFormed}
+use Rattle.text.specs.declared.place.IllFormed.{IllFormed}
 use Rattle.tokens.specs.Result.{Res, ok, no}
 use Rattle.tokens.specs.Record.{record_size, capacity, line_at, column_at}
 use Rattle.tokens.specs.Lexing.{Lexing, ended, refused, token, most_tokens, most_bytes, least_words}
-use Rattle.tokens.specs.Lex.{lex_text, answer_from, written_from, answer_by, words_by, lex_answer, lex_words}
+use Rattle.tokens.specs.Lex.{refusal, lex_text, answer_from, written_from, answer_by, words_by, lex_answer, lex_words}
 use Rattle.tokens.specs.declared.cursor.Refusal.{Refusal}
 use Rattle.tokens.specs.declared.lexer.Lexed.{Lexed}
-use Rattle.tokens.specs.declared.lexer.Lexed.TheVariants.{Tokens, Refused}
+use Rattle.tokens.specs.declared.lexer.Refusal.{Refusal as LexRefusal}
 use Rattle.sheet.specs.Sheet.{sheet_check}
 use Rattle.sheet.specs.Adapters.{has}
 use Rattle.sheet.specs.Survey.{survey_of}
 use Rattle.sheet.specs.View.{View, seen, own_primary, view_of}
 use Rattle.sheet.specs.declared.Call.{Call}
-use Rattle.sheet.specs.declared.Settings.{Settings}
-use Rattle.sheet.specs.declared.rows.Survey.{Survey}
-use Rattle.sheet.specs.declared.rows.Verdict.{Verdict}
-use Rattle.sheet.specs.declared.rows.Verdict.TheVariants.{BadLine}
+use Rattle.sheet.specs.declared.rows.BadLine.{BadLine}
+use Rattle.sheet.specs.declared.rows.Said.{Said}
 use Rattle.sheet.proofs.CallLaws.{in_byte, sheet-bad, sheet-good, own_is, view-is}
 use Rattle.topics.specs.Topics.{lent_topics}
 use Rattle.topics.specs.Ranges.{lent_with}
@@ -38,19 +37,15 @@ use Rattle.topics.proofs.RangeLaws.{lent-alone}
 use Rattle.language.specs.Section.{Lists}
 use Rattle.tokens.specs.Ended.{Ended, record_words, token_line, token_column}
 use Rattle.tokens.specs.Placed.{AllInWord}
-use Rattle.model.specs.Lists.{triggers_of, conditions_of, accepted_with, refused_with}
+use Rattle.model.specs.Lists.{refused_with}
 use Rattle.language.specs.Read.{parsed, rule_of, lexed_from, by_primary, by_text, by_sheet, Outcome, read_of}
 use Rattle.language.specs.Demand.{Exact}
 use Rattle.tokens.specs.Buffer.{Holds, front_of}
-use Rattle.model.specs.declared.Triggers.{Triggers}
-use Rattle.model.specs.declared.Conditions.{Conditions}
 use Rattle.model.specs.declared.Answer.{Answer}
 use Rattle.language.proofs.AskedLaws.{lexed-complete}
 use Rattle.language.proofs.Theorem.{few, exact}
 use Rattle.language.proofs.HoldsLaws.{read-holds}
-use Rattle.reader.specs.Parts.{to_rule, placed, answered, not_own}
-use Rattle.reader.specs.declared.parts.Rule.{Rule}
-use Rattle.reader.proofs.RuleLaws.{one_answer}
+use Rattle.reader.specs.Parts.{placed, answered, not_own}
 use Rattle.tokens.proofs.BufferLaws.{buffer-size, records-count, line_in, column_in, end_line, end-column, line-past, column-past, answer-ended, RefusedAt, answer-refused, buffer-records}
 use Rattle.tokens.proofs.PlacedLaws.{all_in-word}
 
@@ -80,10 +75,10 @@ abbrev pub Asked : List ℕ → List ℕ → Type 0
 Asked text words = (length text ≤ most_bytes) × (least_words ≤ length words)
 
 -- what is answered once the text is lexed into these words
-abbrev lexed_by : List ℕ → View → List (List ℕ) → List ℕ → Lexed → Answer
-lexed_by text view lent words (Tokens count line column) =
-    answered (take (count * record_size) words) line column (rule_of text (take (count * record_size) words) view lent)
-lexed_by text view lent words (Refused number line column) = refused_with number line column 0
+abbrev lexed_by : List ℕ → View → List (List ℕ) → List ℕ → Result Lexed LexRefusal → Answer
+lexed_by text view lent words (Ok t) =
+    answered (take (t.count * record_size) words) t.line t.column (rule_of text (take (t.count * record_size) words) view lent)
+lexed_by text view lent words (Err r) = refused_with r.number r.line r.column 0
 
 -- a lexing that was refused answers so, too
 refused-same : (text : List ℕ) (view : View) (lent : List (List ℕ)) (whole l : Lexing) (number line column : ℕ) → RefusedAt number line column l →
@@ -95,55 +90,53 @@ refused-same text view lent whole (token r l) number line column h = refused-sam
 
 -- lexed into a buffer with room, and parsed from it
 module _ (text : List ℕ) (view : View) (lent : List (List ℕ)) (words : List ℕ) (short : length text ≤ most_bytes) (room : least_words ≤ length words) where
-  by_answer : (x : Lexed) → answer_from 0 (lex_text text) ≡ x →
+  by_answer : (x : Result Lexed LexRefusal) → answer_from 0 (lex_text text) ≡ x →
       lexed_by text view lent (written_from 0 words (lex_text text)) x ≡ lexed_from text view lent (lex_text text) (lex_text text)
-  by_answer (Refused number line column) e = refused-same text view lent (lex_text text) (lex_text text) number line column (answer-refused 0 (lex_text text) e)
-  by_answer (Tokens count line column) e =
+  by_answer (Err r) e = refused-same text view lent (lex_text text) (lex_text text) r.number r.line r.column (answer-refused 0 (lex_text text) e)
+  by_answer (Ok t) e =
       let a = answer-ended 0 (lex_text text) e in
       let n = a.0 in
-      let same : n ≡ count = let s = a.2 in omega arith in
+      let same : n ≡ t.count = let s = a.2 in omega arith in
       let fits : n * record_size ≤ length words = let f = few text a.1 in omega arith in
-      let records : take (count * record_size) (written_from 0 words (lex_text text)) ≡ record_words (lex_text text) =
+      let records : take (t.count * record_size) (written_from 0 words (lex_text text)) ≡ record_words (lex_text text) =
       rw (← same) (buffer-records words a.1 fits) in
       rw (records, a.3, a.4) (answered-parsed (all_in-word text short) a.1 (rule_of text (record_words (lex_text text)) view lent)) ∙
       sym (lexed-complete text view lent (lex_text text) a.1)
 
-  answer_by_lem : (x : Checked) → lexed_by text view lent (words_by text words x) (answer_by text x) ≡ (by_text text view lent words true x).answer
+  answer_by_lem : (x : Result Unit IllFormed) → lexed_by text view lent (words_by text words x) (answer_by text x) ≡ (by_text text view lent words true x).answer
   unfolding answer_by words_by by_text by_primary
-  answer_by_lem WellFormed = by_answer (answer_from 0 (lex_text text)) refl
-  answer_by_lem (IllFormed line column) = refl
+  answer_by_lem (Ok _) = by_answer (answer_from 0 (lex_text text)) refl
+  answer_by_lem (Err at) = refl
 
   pub lexed-same : lexed_by text view lent (lex_words text words) (lex_answer text words) ≡ (by_text text view lent words true (check_of text)).answer
   unfolding lex_answer lex_words
   lexed-same = rw (le-ltb most_bytes (length text) short, le-ltb (length words) least_words room) (answer_by_lem (check_of text))
 
-  words_by_lem : (x : Checked) → words_by text words x ≡ (by_text text view lent words true x).buffer
+  words_by_lem : (x : Result Unit IllFormed) → words_by text words x ≡ (by_text text view lent words true x).buffer
   unfolding words_by by_text by_primary
-  words_by_lem WellFormed = refl
-  words_by_lem (IllFormed line column) = refl
+  words_by_lem (Ok _) = refl
+  words_by_lem (Err at) = refl
 
   pub words_same : lex_words text words ≡ (by_text text view lent words true (check_of text)).buffer
   unfolding lex_words
   words_same = rw (le-ltb most_bytes (length text) short, le-ltb (length words) least_words room) (words_by_lem (check_of text))
 
 -- an answer with tokens passed a question
-abbrev is-tokens : Lexed → Bool
-is-tokens (Tokens count line column) = true
-is-tokens (Refused number line column) = false
+abbrev is-tokens : Result Lexed LexRefusal → Bool
+is-tokens (Ok t) = true
+is-tokens (Err r) = false
 
-passed : (b : Bool) (number : ℕ) (x : Lexed) {count line column : ℕ} → pick b (Refused number 0 0) x ≡ Tokens count line column →
-    (b ≡ false) × (x ≡ Tokens count line column)
+passed : (b : Bool) (number : ℕ) (x : Result Lexed LexRefusal) {t : Lexed} → pick b (refusal number 0 0) x ≡ Ok t → (b ≡ false) × (x ≡ Ok t)
 passed true number x e = absurd (let p = ap is-tokens e in let z : ◌≡◌ {A = ℕ} 0 1 = cc in omega arith)
 passed false number x e = (refl, e)
 
-passed-check : (text : List ℕ) (x : Checked) {count line column : ℕ} → answer_by text x ≡ Tokens count line column →
-    answer_from 0 (lex_text text) ≡ Tokens count line column
+passed-check : (text : List ℕ) (x : Result Unit IllFormed) {t : Lexed} → answer_by text x ≡ Ok t → answer_from 0 (lex_text text) ≡ Ok t
 unfolding answer_by
-passed-check text WellFormed e = e
-passed-check text (IllFormed l c) e = absurd (let p = ap is-tokens e in let z : ◌≡◌ {A = ℕ} 0 1 = cc in omega arith)
+passed-check text (Ok _) e = e
+passed-check text (Err at) e = absurd (let p = ap is-tokens e in let z : ◌≡◌ {A = ℕ} 0 1 = cc in omega arith)
 
 -- at most 1,024 records are counted, and they are in the buffer
-counted-few : (text words : List ℕ) {count line column : ℕ} → lex_answer text words ≡ Tokens count line column → count ≤ most_tokens
+counted-few : (text words : List ℕ) {t : Lexed} → lex_answer text words ≡ Ok t → t.count ≤ most_tokens
 unfolding lex_answer
 counted-few text words e =
     let p = passed (ltb most_bytes (length text)) 1 _ e in
@@ -153,8 +146,7 @@ counted-few text words e =
     let s = a.2 in
     omega arith
 
-counted-records : (text words : List ℕ) {count line column : ℕ} → lex_answer text words ≡ Tokens count line column →
-    count * record_size ≤ length words
+counted-records : (text words : List ℕ) {t : Lexed} → lex_answer text words ≡ Ok t → t.count * record_size ≤ length words
 unfolding lex_answer
 counted-records text words e =
     let p = passed (ltb most_bytes (length text)) 1 _ e in
@@ -164,46 +156,46 @@ counted-records text words e =
     omega arith
 
 -- The code's steps. The lexer's answer x, and the buffer behind it:
-module _ (text words : List ℕ) {x : Lexed} (answer : x ≡ lex_answer text words) where
+module _ (text words : List ℕ) {x : Result Lexed LexRefusal} (answer : x ≡ lex_answer text words) where
   lexed-size : length (lex_words text words) ≡ length words
   unfolding lex_words words_by
   lexed-size = by (ltb most_bytes (length text)) (ltb (length words) least_words) (check_of text)
     where
-      by : (a b : Bool) (x : Checked) → length (pick a words (pick b words (words_by text words x))) ≡ length words
+      by : (a b : Bool) (x : Result Unit IllFormed) → length (pick a words (pick b words (words_by text words x))) ≡ length words
       by true b x = refl
       by false true x = refl
-      by false false WellFormed = buffer-size words (lex_text text)
-      by false false (IllFormed line column) = refl
+      by false false (Ok _) = buffer-size words (lex_text text)
+      by false false (Err at) = refl
 
-  module _ {count line column : ℕ} (was : x ≡ Tokens count line column) where
-    in_words : count * record_size ≤ length words
+  module _ {t : Lexed} (was : x ≡ Ok t) where
+    in_words : t.count * record_size ≤ length words
     in_words = counted-records text words (sym answer ∙ was)
 
-    pub records-fit : Fits w64 (count * record_size)
+    pub records-fit : Fits w64 (t.count * record_size)
     records-fit = record { fits = let f = counted-few text words (sym answer ∙ was) in omega arith }
 
-    pub records_in : {buffer : List ℕ} → buffer ≡ lex_words text words → count * record_size ≤ length buffer
+    pub records_in : {buffer : List ℕ} → buffer ≡ lex_words text words → t.count * record_size ≤ length buffer
     records_in e = rw (e, lexed-size) in_words
 
-    pub records-taken : {buffer : List ℕ} → buffer ≡ lex_words text words → count * record_size ≡ length (take (count * record_size) buffer)
-    records-taken {buffer} e = sym (length-take-le (count * record_size) buffer (records_in e))
+    pub records-taken : {buffer : List ℕ} → buffer ≡ lex_words text words → t.count * record_size ≡ length (take (t.count * record_size) buffer)
+    records-taken {buffer} e = sym (length-take-le (t.count * record_size) buffer (records_in e))
 
     by-tokens : (view : View) (lent : List (List ℕ)) {buffer : List ℕ} {r : Answer} → buffer ≡ lex_words text words →
-        r ≡ answered (take (count * record_size) buffer) line column (rule_of text (take (count * record_size) buffer) view lent) →
+        r ≡ answered (take (t.count * record_size) buffer) t.line t.column (rule_of text (take (t.count * record_size) buffer) view lent) →
         r ≡ lexed_by text view lent (lex_words text words) (lex_answer text words)
     by-tokens view lent e h = rw (← answer, was, ← e) h
 
     pub lexed-yes : (view : View) (lent : List (List ℕ)) {buffer : List ℕ} {r : Answer} → Asked text words → buffer ≡ lex_words text words →
-        r ≡ answered (take (count * record_size) buffer) line column (rule_of text (take (count * record_size) buffer) view lent) →
+        r ≡ answered (take (t.count * record_size) buffer) t.line t.column (rule_of text (take (t.count * record_size) buffer) view lent) →
         r ≡ (by_text text view lent words true (check_of text)).answer
     lexed-yes view lent q e h = by-tokens view lent e h ∙ lexed-same text view lent words q.0 q.1
 
-  by-refusal : (view : View) (lent : List (List ℕ)) {number line column : ℕ} {r : Answer} → x ≡ Refused number line column →
-      r ≡ refused_with number line column 0 → r ≡ lexed_by text view lent (lex_words text words) (lex_answer text words)
+  by-refusal : (view : View) (lent : List (List ℕ)) {no : LexRefusal} {r : Answer} → x ≡ Err no →
+      r ≡ refused_with no.number no.line no.column 0 → r ≡ lexed_by text view lent (lex_words text words) (lex_answer text words)
   by-refusal view lent was h = rw (← answer, was) h
 
-  pub lexed-no : (view : View) (lent : List (List ℕ)) {number line column : ℕ} {r : Answer} → Asked text words → x ≡ Refused number line column →
-      r ≡ refused_with number line column 0 → r ≡ (by_text text view lent words true (check_of text)).answer
+  pub lexed-no : (view : View) (lent : List (List ℕ)) {no : LexRefusal} {r : Answer} → Asked text words → x ≡ Err no →
+      r ≡ refused_with no.number no.line no.column 0 → r ≡ (by_text text view lent words true (check_of text)).answer
   lexed-no view lent q was h = by-refusal view lent was h ∙ lexed-same text view lent words q.0 q.1
 
 -- the words behind the lexer
@@ -222,71 +214,44 @@ module _ (words : List ℕ) (line column : ℕ) (refusal : Refusal) {count : ℕ
   unfolding placed
   placed_past h e = lt_no refusal.token (capacity words) _ _ (rw (← counted) h) e
 
--- the parser's answer on the records
-module _ (settings : Settings) (text words sheet : List ℕ) (lent : List (List ℕ)) (line column : ℕ) {rule : Rule}
-    (read : rule ≡ to_rule (rule_of text words (view_of settings sheet) lent)) where
-  yes-by : (m : Res Lists) → rule ≡ to_rule m → rule.accepted ≡ true →
-      record { number = 0; line = 0; column = 0; detail = 0; triggers = rule.triggers; conditions = rule.conditions } ≡ answered words line column m
-  unfolding to_rule answered accepted_with
-  yes-by (ok lists i) e h =
-      ap
-      (λ (r : Rule). record { number = 0; line = 0; column = 0; detail = 0; triggers = r.triggers; conditions = r.conditions })
-      e
-  yes-by (no r) e h = absurd (one_answer h (ap (λ (r : Rule). r.accepted) e))
-
-  no-by : (m : Res Lists) {a : Answer} → rule ≡ to_rule m → rule.accepted ≡ false → a ≡ placed words line column rule.refusal →
-      a ≡ answered words line column m
-  unfolding to_rule answered
-  no-by (ok lists i) e h w = absurd (one_answer (ap (λ (r : Rule). r.accepted) e) h)
-  no-by (no r) e h w = w ∙ ap (λ (r : Rule). placed words line column r.refusal) e
-
-  pub parsed-yes : rule.accepted ≡ true →
-      record { number = 0; line = 0; column = 0; detail = 0; triggers = rule.triggers; conditions = rule.conditions } ≡
-      answered words line column (rule_of text words (view_of settings sheet) lent)
-  parsed-yes h = yes-by (rule_of text words (view_of settings sheet) lent) read h
-
-  pub parsed-no : {a : Answer} → rule.accepted ≡ false → a ≡ placed words line column rule.refusal →
-      a ≡ answered words line column (rule_of text words (view_of settings sheet) lent)
-  parsed-no h w = no-by (rule_of text words (view_of settings sheet) lent) read h w
-
 -- a call whose primary adapter is not its party's
-pub not_own-by : (x : Checked) {r v : Checked} {a : Answer} → r ≡ x → r ≡ v → a ≡ not_own v → a ≡ not_own x
-not_own-by x e m h = rw (← e, m) h
+pub not_own_by : (x : Result Unit IllFormed) {r v : Result Unit IllFormed} {a : Answer} → r ≡ x → r ≡ v → a ≡ not_own v → a ≡ not_own x
+not_own_by x e m h = rw (← e, m) h
 
-not_own-answer : (text : List ℕ) (view : View) (lent : List (List ℕ)) (words : List ℕ) (c : Checked) → not_own c ≡ (by_text text view lent words false c).answer
+not_own-answer : (text : List ℕ) (view : View) (lent : List (List ℕ)) (words : List ℕ) (c : Result Unit IllFormed) → not_own c ≡ (by_text text view lent words false c).answer
 unfolding not_own by_text by_primary
-not_own-answer text view lent words WellFormed = refl
-not_own-answer text view lent words (IllFormed line column) = refl
+not_own-answer text view lent words (Ok _) = refl
+not_own-answer text view lent words (Err at) = refl
 
-not_own-buffer : (text : List ℕ) (view : View) (lent : List (List ℕ)) (words : List ℕ) (c : Checked) → words ≡ (by_text text view lent words false c).buffer
+not_own-buffer : (text : List ℕ) (view : View) (lent : List (List ℕ)) (words : List ℕ) (c : Result Unit IllFormed) → words ≡ (by_text text view lent words false c).buffer
 unfolding by_text by_primary
-not_own-buffer text view lent words WellFormed = refl
-not_own-buffer text view lent words (IllFormed line column) = refl
+not_own-buffer text view lent words (Ok _) = refl
+not_own-buffer text view lent words (Err at) = refl
 
 -- question 3's answer, taken apart: of a sheet that is well formed it says which adapters are the party's, and which are listed
-module _ (call : Call) (text sheet : List ℕ) (lent : List (List ℕ)) (words : List ℕ) {survey : Survey} (checked : survey ≡ survey_of call.party sheet) where
+module _ (call : Call) (text sheet : List ℕ) (lent : List (List ℕ)) (words : List ℕ) {survey : Result Said BadLine} (checked : survey ≡ survey_of call.party sheet) where
   abbrev outcome : Outcome
   outcome = by_sheet text (seen call sheet) lent words (own_primary call sheet) (sheet_check sheet)
 
-  module _ {n : ℕ} (bad : survey.verdict ≡ BadLine n) where
-    bad-same : record { answer = refused_with 3 n 0 0; buffer = words } ≡ outcome
+  module _ {bad : BadLine} (is : survey ≡ Err bad) where
+    bad-same : record { answer = refused_with 3 bad.line 0 0; buffer = words } ≡ outcome
     unfolding by_sheet
-    bad-same = rw (sheet-bad call sheet checked bad)
+    bad-same = rw (sheet-bad call sheet checked is)
 
-    pub bad-answer : {a : Answer} → a ≡ refused_with 3 n 0 0 → a ≡ outcome.answer
+    pub bad-answer : {a : Answer} → a ≡ refused_with 3 bad.line 0 0 → a ≡ outcome.answer
     bad-answer e = e ∙ ap (λ (o : Outcome). o.answer) bad-same
 
     pub bad-buffer : words ≡ outcome.buffer
     bad-buffer = ap (λ (o : Outcome). o.buffer) bad-same
 
-  module _ (good : survey.verdict ≡ Verdict.WellFormed) (byte : Fits w8 call.primary) {own : Bool} (has-own : own ≡ has survey.said.own call.primary) where
+  module _ {said : Said} (good : survey ≡ Ok said) (byte : Fits w8 call.primary) {own : Bool} (has-own : own ≡ has said.own call.primary) where
     outcome-is : by_text text (seen call sheet) lent words own (check_of text) ≡ outcome
     unfolding by_sheet
     outcome-is = rw (sheet-good call sheet checked good, own_is call sheet checked good byte has-own)
 
     abbrev own-outcome : Outcome
     own-outcome =
-        by_text text (view_of (record { primary = call.primary; habit = call.habit; own = survey.said.own; listed = survey.said.listed }) sheet) lent words true (check_of text)
+        by_text text (view_of (record { primary = call.primary; habit = call.habit; own = said.own; listed = said.listed }) sheet) lent words true (check_of text)
 
     own_same : own ≡ true → own-outcome ≡ outcome
     own_same h = rw (view-is call sheet checked good) (rw h at outcome-is)

@@ -1,46 +1,38 @@
 -- The loops of the two sections, and their answers taken apart.
-use Prim.Native.Nat.{ℕ, ◌+◌, ◌-◌, ◌<◌, ◌≤◌}
+use Prim.Native.Nat.{ℕ, ◌+◌, ◌<◌, ◌≤◌}
 use native.Mathlib.Omega.{arith}
 use mathlib.Core.Path.{◌≡◌, refl, sym, ap, ◌∙◌}
 use mathlib.Core.Bool.{Bool, true, false}
 use mathlib.Core.List.{List, [], ◌∷◌, ◌++◌}
-use lib.ListN.{length, length-append, set}
+use lib.ListN.{length, set}
 use Rattle.text.specs.Literal.{ascii}
 use Rattle.text.proofs.Tests.{lt_yes}
-use Rattle.tokens.specs.Result.{Res, ok, no, bind}
-use Rattle.tokens.specs.Cursor.{Tok, is_word, accepted}
+use Rattle.tokens.specs.Result.{Res, ok, bind}
+use Rattle.tokens.specs.Cursor.{Tok, is_word, accepted, Taken, to_taken}
 use Rattle.tokens.specs.declared.cursor.Cursor.{Cursor}
 use Rattle.tokens.specs.declared.cursor.Refusal.{Refusal}
-use Rattle.tokens.specs.declared.cursor.Accepted.{Accepted}
-use Rattle.tokens.specs.declared.cursor.Accepted.TheVariants.{Yes, Left}
 use Rattle.sheet.specs.View.{View}
-use Rattle.topics.specs.Topics.{most_topics, fits}
+use Rattle.topics.specs.Topics.{fits}
 use Rattle.topics.specs.Ranges.{no_ranges, with_topic, topic_by, name_in, topics_in}
 use Rattle.topics.specs.declared.ranges.Ranges.{Ranges}
-use Rattle.topics.specs.declared.ranges.Topic.{Topic}
 use Rattle.topics.proofs.RangeLaws.{Stand, none-stand, topic-stands, topic-few}
 use Rattle.language.specs.Topics.{topic_name, topic_of}
 use Rattle.language.specs.Read.{topics_with}
-use Rattle.sections.specs.Answers.{to_trigger}
 use Rattle.language.specs.Condition.{condition_at}
-use Rattle.sections.specs.Answers.{to_condition}
 use Rattle.language.specs.Section.{Topics, trigger_named, repeated}
 use Rattle.language.specs.Trigger.{trigger_at}
 use Rattle.model.specs.Lists.{padded, triggers_of, conditions_of}
-use Rattle.sections.proofs.AnswerChain.{is_trigger, is_condition}
 use Rattle.model.specs.declared.Name.{Name}
 use Rattle.model.specs.declared.Trigger.{Trigger}
-use Rattle.sections.specs.declared.trigger.TriggerAnswer.{TriggerAnswer}
 use Rattle.model.specs.declared.Condition.{Condition}
 use Rattle.model.specs.declared.Condition.TheVariants.{ControllerActive}
 use Rattle.model.specs.declared.ConditionRow.{ConditionRow}
-use Rattle.sections.specs.declared.condition.ConditionAnswer.{ConditionAnswer}
 use Rattle.model.specs.declared.Triggers.{Triggers}
 use Rattle.model.specs.declared.Conditions.{Conditions}
-use Rattle.reader.specs.Parts.{with_trigger, with_condition, unrefused, to_whens, to_ifs}
-use Rattle.reader.specs.declared.parts.Whens.{Whens}
-use Rattle.reader.specs.declared.parts.Ifs.{Ifs}
+use Rattle.reader.specs.Parts.{with_trigger, with_condition, to_whens, to_ifs}
+use Rattle.tokens.proofs.Chain.{is_taken}
 use Rattle.reader.proofs.LoopLaws.{Going, begin, begin_with, at_last, too_many_lem, one_refused, one_more, was_left, was_there}
+use Rattle.std.specs.Prelude.{Option, Some, None, Ok, Err}
 
 pub trigger-counts : (xs : List Trigger) → (triggers_of xs).count ≡ length xs
 unfolding triggers_of
@@ -97,27 +89,27 @@ unfolding with_condition
 condition-set list y h = lt_yes list.count 4 _ _ h refl
 
 -- a trigger behind others: what was read, and whether its topic fits
-module _ (t : ℕ → Tok) (view : View) (range : ℕ → Name) (topics : Topics) (fuel : ℕ) (named : List (List ℕ)) (i : ℕ) {one : TriggerAnswer}
-    (read : one ≡ to_trigger (trigger_at t view range fuel i)) where
-  pub named-no : {refusal : Refusal} → one ≡ TriggerAnswer.No refusal →
-      TriggerAnswer.No refusal ≡ to_trigger (trigger_named t view range topics fuel named i)
-  unfolding trigger_named to_trigger
-  named-no w = rw (is_trigger (trigger_at t view range fuel i) read w)
+module _ (t : ℕ → Tok) (view : View) (range : ℕ → Name) (topics : Topics) (fuel : ℕ) (named : List (List ℕ)) (i : ℕ) {one : Taken Trigger}
+    (read : one ≡ to_taken (trigger_at t view range fuel i)) where
+  pub named-no : {refusal : Refusal} → one ≡ Err refusal →
+      Err refusal ≡ to_taken (trigger_named t view range topics fuel named i)
+  unfolding trigger_named to_taken
+  named-no w = rw (is_taken (trigger_at t view range fuel i) read w)
 
-  module _ {x : Trigger} {behind : Cursor} (w : one ≡ TriggerAnswer.Got x behind) {topic : Topic} (its : topic ≡ topic_name x) {fit : Bool}
+  module _ {x : Trigger} {behind : Cursor} (w : one ≡ Ok (x, behind)) {topic : Option Name} (its : topic ≡ topic_name x) {fit : Bool}
       (judged : fit ≡ fits topics.lent named (topic_by topics.written topic)) where
     fit_is : fits topics.lent named (topic_of topics.written x) ≡ fit
     unfolding topic_of
-    fit_is = ap (λ (y : Topic). fits topics.lent named (topic_by topics.written y)) (sym its) ∙ sym judged
+    fit_is = ap (λ (y : Option Name). fits topics.lent named (topic_by topics.written y)) (sym its) ∙ sym judged
 
-    pub named-yes : fit ≡ true → TriggerAnswer.Got x behind ≡ to_trigger (trigger_named t view range topics fuel named i)
-    unfolding trigger_named to_trigger
-    named-yes h = rw (is_trigger (trigger_at t view range fuel i) read w, fit_is, h)
+    pub named-yes : fit ≡ true → Ok (x, behind) ≡ to_taken (trigger_named t view range topics fuel named i)
+    unfolding trigger_named to_taken
+    named-yes h = rw (is_taken (trigger_at t view range fuel i) read w, fit_is, h)
 
     pub named-many : {r : Refusal} → fit ≡ false → r ≡ record { number = 66; token = i; detail = 0 } →
-        TriggerAnswer.No r ≡ to_trigger (trigger_named t view range topics fuel named i)
-    unfolding trigger_named to_trigger
-    named-many h e = rw (is_trigger (trigger_at t view range fuel i) read w, fit_is, h, e)
+        Err r ≡ to_taken (trigger_named t view range topics fuel named i)
+    unfolding trigger_named to_taken
+    named-many h e = rw (is_taken (trigger_at t view range fuel i) read w, fit_is, h, e)
 
 module _ (text : List ℕ) (t : ℕ → Tok) (view : View) (range : ℕ → Name) (lent : List (List ℕ)) (fuel : ℕ) where
   abbrev form : List (List ℕ) → ℕ → Res Trigger
@@ -151,36 +143,37 @@ module _ (text : List ℕ) (t : ℕ → Tok) (view : View) (range : ℕ → Name
   whens_four : {whole : Res (List Trigger)} {list : Triggers} {named : Ranges} {i : ℕ} → WhensLoop whole list named i → 4 ≤ list.count → list.count ≡ 4
   whens_four {list = list} g f = trigger-full g.going.entries list g.going.stored (let r = g.going.room in omega arith) f
 
-  module _ {whole : Res (List Trigger)} {list : Triggers} {named : Ranges} {p : Cursor} {a : Accepted} (g : WhensLoop whole list named p.index)
+  module _ {whole : Res (List Trigger)} {list : Triggers} {named : Ranges} {p : Cursor} {a : Option Cursor} (g : WhensLoop whole list named p.index)
       (asked : a ≡ accepted (is_word t (ascii "when") p.index) p.index) where
     -- the word is not there: the list is finished
-    pub whens_end : {r : Whens} → a ≡ Left → r ≡ record { accepted = true; refusal = unrefused; next = p; list = list } → r ≡ to_whens whole
+    pub whens_end : a ≡ None → Ok (list, p) ≡ to_whens whole
     unfolding to_whens
-    whens_end m e =
-        e ∙ rw (g.going.stored, at_last triggers_of with_trigger (λ (l : Triggers). l.count) trigger-counts trigger-puts t (ascii "when") 37 form after g.going (was_left _ _ asked m))
+    whens_end m =
+        rw (g.going.stored, at_last triggers_of with_trigger (λ (l : Triggers). l.count) trigger-counts trigger-puts t (ascii "when") 37 form after g.going (was_left _ _ asked m))
 
-    module _ {next : Cursor} (m : a ≡ Yes next) where
+    module _ {next : Cursor} (m : a ≡ Some next) where
       there : (is_word t (ascii "when") p.index ≡ true) × (next.index ≡ p.index + 1)
       there = was_there _ _ asked m
 
       -- the list is full
-      pub whens_full : {r : Whens} {refusal : Refusal} → 4 ≤ list.count → refusal ≡ record { number = 37; token = p.index; detail = 0 } →
-          r ≡ to_whens (no refusal) → r ≡ to_whens whole
-      whens_full f h e =
-          e ∙ rw (h, too_many_lem triggers_of with_trigger (λ (l : Triggers). l.count) trigger-counts trigger-puts t (ascii "when") 37 form after g.going there.0 (whens_four g f))
+      pub whens_full : {refusal : Refusal} → 4 ≤ list.count → refusal ≡ record { number = 37; token = p.index; detail = 0 } →
+          Err refusal ≡ to_whens whole
+      unfolding to_whens
+      whens_full f h =
+          rw (h, too_many_lem triggers_of with_trigger (λ (l : Triggers). l.count) trigger-counts trigger-puts t (ascii "when") 37 form after g.going there.0 (whens_four g f))
 
-      module _ (f : list.count < 4) {one : TriggerAnswer} (read : one ≡ to_trigger (form (topics_in text named) next.index)) where
-        read_here : one ≡ to_trigger (form g.topics (p.index + 1))
+      module _ (f : list.count < 4) {one : Taken Trigger} (read : one ≡ to_taken (form (topics_in text named) next.index)) where
+        read_here : one ≡ to_taken (form g.topics (p.index + 1))
         read_here = rw (← there.1, ← g.stand.are) read
 
         -- the form is refused
-        pub whens_stop : {r : Whens} {refusal : Refusal} → one ≡ TriggerAnswer.No refusal → r ≡ to_whens (no refusal) → r ≡ to_whens whole
-        whens_stop {refusal = refusal} w e =
-            e ∙
-            rw (one_refused triggers_of with_trigger (λ (l : Triggers). l.count) trigger-counts trigger-puts t (ascii "when") 37 form after g.going there.0 (below-four f) {r = refusal} (is_trigger _ read_here w))
+        pub whens_stop : {refusal : Refusal} → one ≡ Err refusal → Err refusal ≡ to_whens whole
+        unfolding to_whens
+        whens_stop {refusal = refusal} w =
+            rw (one_refused triggers_of with_trigger (λ (l : Triggers). l.count) trigger-counts trigger-puts t (ascii "when") 37 form after g.going there.0 (below-four f) {r = refusal} (is_taken _ read_here w))
 
         -- one more
-        pub whens_put : {x : Trigger} {behind : Cursor} {more : Ranges} → one ≡ TriggerAnswer.Got x behind → more ≡ with_topic named (topic_name x) →
+        pub whens_put : {x : Trigger} {behind : Cursor} {more : Ranges} → one ≡ Ok (x, behind) → more ≡ with_topic named (topic_name x) →
             WhensLoop whole (record { rows = set list.rows list.count (record { trigger = x }); count = list.count + 1 }) more behind.index
         unfolding topic_of
         whens_put {x} w n =
@@ -190,7 +183,7 @@ module _ (text : List ℕ) (t : ℕ → Tok) (view : View) (range : ℕ → Name
               few = let h = g.few in let k = topic-few (name_in text) g.topics (topic_name x) in omega arith;
               going =
                   one_more triggers_of with_trigger (λ (l : Triggers). l.count) trigger-counts trigger-puts t (ascii "when") 37 form after g.going
-                  there.0 (below-four f) (is_trigger _ read_here w) (trigger-set list x f);
+                  there.0 (below-four f) (is_taken _ read_here w) (trigger-set list x f);
             }
 
 module _ (t : ℕ → Tok) (view : View) (range : ℕ → Name) (fuel : ℕ) where
@@ -237,17 +230,16 @@ module _ (t : ℕ → Tok) (view : View) (range : ℕ → Name) (fuel : ℕ) whe
   ands_four : {begun list : Conditions} {start i : ℕ} → AndLoop begun start list i → 4 ≤ list.count → list.count ≡ 4
   ands_four {list = list} g f = condition-full g.going.entries list g.going.stored (let r = g.going.room in omega arith) f
 
-  module _ {begun list : Conditions} {start : ℕ} {p : Cursor} {a : Accepted} (g : AndLoop begun start list p.index)
+  module _ {begun list : Conditions} {start : ℕ} {p : Cursor} {a : Option Cursor} (g : AndLoop begun start list p.index)
       (asked : a ≡ accepted (is_word t (ascii "and") p.index) p.index) where
     begun_with : (x : Condition) → begun ≡ conditions_of (x ∷ []) → g.first ≡ x
     begun_with x e = same_first g.first x (sym g.alone ∙ e)
 
     -- the word is not there: the list is finished
-    pub ands_end : (whole : Res (List Condition)) (x : Condition) {r : Ifs} → begun ≡ conditions_of (x ∷ []) → a ≡ Left →
-        r ≡ record { accepted = true; refusal = unrefused; next = p; list = list } → behind-first x start ≡ whole → r ≡ to_ifs whole
+    pub ands_end : (whole : Res (List Condition)) (x : Condition) → begun ≡ conditions_of (x ∷ []) → a ≡ None →
+        behind-first x start ≡ whole → Ok (list, p) ≡ to_ifs whole
     unfolding to_ifs
-    ands_end whole x b m e h =
-        e ∙
+    ands_end whole x b m h =
         rw (
           ← h,
           ← begun_with x b,
@@ -255,16 +247,15 @@ module _ (t : ℕ → Tok) (view : View) (range : ℕ → Name) (fuel : ℕ) whe
           at_last conditions_of with_condition (λ (l : Conditions). l.count) condition-counts condition-puts t (ascii "and") 39 condition-form same-state g.going (was_left _ _ asked m),
         )
 
-    module _ {next : Cursor} (m : a ≡ Yes next) where
+    module _ {next : Cursor} (m : a ≡ Some next) where
       and_there : (is_word t (ascii "and") p.index ≡ true) × (next.index ≡ p.index + 1)
       and_there = was_there _ _ asked m
 
       -- the list is full
-      pub ands_full : (whole : Res (List Condition)) (x : Condition) {r : Ifs} {refusal : Refusal} → begun ≡ conditions_of (x ∷ []) →
-          4 ≤ list.count → refusal ≡ record { number = 39; token = p.index; detail = 0 } → r ≡ to_ifs (no refusal) →
-          behind-first x start ≡ whole → r ≡ to_ifs whole
-      ands_full whole x b f h e w =
-          e ∙
+      pub ands_full : (whole : Res (List Condition)) (x : Condition) {refusal : Refusal} → begun ≡ conditions_of (x ∷ []) →
+          4 ≤ list.count → refusal ≡ record { number = 39; token = p.index; detail = 0 } → behind-first x start ≡ whole → Err refusal ≡ to_ifs whole
+      unfolding to_ifs
+      ands_full whole x b f h w =
           rw (
             h,
             ← w,
@@ -272,29 +263,28 @@ module _ (t : ℕ → Tok) (view : View) (range : ℕ → Name) (fuel : ℕ) whe
             too_many_lem conditions_of with_condition (λ (l : Conditions). l.count) condition-counts condition-puts t (ascii "and") 39 condition-form same-state g.going and_there.0 (ands_four g f),
           )
 
-      module _ (f : list.count < 4) {one : ConditionAnswer} (read : one ≡ to_condition (condition_at t view range fuel next.index)) where
+      module _ (f : list.count < 4) {one : Taken Condition} (read : one ≡ to_taken (condition_at t view range fuel next.index)) where
         -- the form is refused
-        pub ands_stop : (whole : Res (List Condition)) (x : Condition) {r : Ifs} {refusal : Refusal} → begun ≡ conditions_of (x ∷ []) →
-            one ≡ ConditionAnswer.No refusal → r ≡ to_ifs (no refusal) →
-            behind-first x start ≡ whole → r ≡ to_ifs whole
-        ands_stop whole x {refusal = refusal} b w e h =
-            e ∙
+        pub ands_stop : (whole : Res (List Condition)) (x : Condition) {refusal : Refusal} → begun ≡ conditions_of (x ∷ []) →
+            one ≡ Err refusal → behind-first x start ≡ whole → Err refusal ≡ to_ifs whole
+        unfolding to_ifs
+        ands_stop whole x {refusal = refusal} b w h =
             rw (
               ← h,
               ← begun_with x b,
-              one_refused conditions_of with_condition (λ (l : Conditions). l.count) condition-counts condition-puts t (ascii "and") 39 condition-form same-state g.going and_there.0 (below-four f) {r = refusal} (rw (← and_there.1) (is_condition _ read w)),
+              one_refused conditions_of with_condition (λ (l : Conditions). l.count) condition-counts condition-puts t (ascii "and") 39 condition-form same-state g.going and_there.0 (below-four f) {r = refusal} (rw (← and_there.1) (is_taken _ read w)),
             )
 
         -- one more
-        pub ands_on : {y : Condition} {behind : Cursor} {more : Conditions} → one ≡ ConditionAnswer.Got y behind → more ≡ with_condition list y →
+        pub ands_on : {y : Condition} {behind : Cursor} {more : Conditions} → one ≡ Ok (y, behind) → more ≡ with_condition list y →
             AndLoop begun start more behind.index
         ands_on w e =
             record {
               first = g.first;
               alone = g.alone;
-              going = one_more conditions_of with_condition (λ (l : Conditions). l.count) condition-counts condition-puts t (ascii "and") 39 condition-form same-state g.going and_there.0 (below-four f) (rw (← and_there.1) (is_condition _ read w)) e;
+              going = one_more conditions_of with_condition (λ (l : Conditions). l.count) condition-counts condition-puts t (ascii "and") 39 condition-form same-state g.going and_there.0 (below-four f) (rw (← and_there.1) (is_taken _ read w)) e;
             }
 
-        pub ands_put : {y : Condition} {behind : Cursor} → one ≡ ConditionAnswer.Got y behind →
+        pub ands_put : {y : Condition} {behind : Cursor} → one ≡ Ok (y, behind) →
             AndLoop begun start (record { rows = set list.rows list.count (record { condition = y }); count = list.count + 1 }) behind.index
         ands_put {y} w = ands_on w (condition-set list y f)

@@ -1,11 +1,10 @@
--- The answers of the reader's parts: structs, since they hold arrays. One refused has the refusal and empty lists.
-use Rattle.std.specs.Prelude.{ℕ, ◌+◌, true, false, List, [], set, ltb, eqb}
+-- The answers of the reader's parts.
+use Rattle.std.specs.Prelude.{ℕ, ◌+◌, List, set, ltb, Result, Ok, Err}
 use Rattle.text.specs.Choice.{pick}
-use Rattle.text.specs.declared.place.Checked.{Checked}
-use Rattle.text.specs.declared.place.Checked.TheVariants.{WellFormed, IllFormed}
-use Rattle.tokens.specs.Result.{Res, ok, no, refuse}
+use Rattle.text.specs.declared.place.IllFormed.{IllFormed}
+use Rattle.tokens.specs.Result.{Res, ok, no}
 use Rattle.tokens.specs.Record.{capacity, line_at, column_at}
-use Rattle.tokens.specs.Cursor.{Tok, at}
+use Rattle.tokens.specs.Cursor.{at, Taken}
 use Rattle.tokens.specs.declared.cursor.Refusal.{Refusal}
 use Rattle.sheet.specs.declared.Habit.{Habit}
 use Rattle.sheet.specs.declared.Settings.{Settings}
@@ -16,8 +15,6 @@ use Rattle.model.specs.declared.Condition.{Condition}
 use Rattle.model.specs.declared.Triggers.{Triggers}
 use Rattle.model.specs.declared.Conditions.{Conditions}
 use Rattle.model.specs.declared.Answer.{Answer}
-use Rattle.reader.specs.declared.parts.Whens.{Whens}
-use Rattle.reader.specs.declared.parts.Ifs.{Ifs}
 use Rattle.reader.specs.declared.parts.Rule.{Rule}
 
 -- a list with one more entry; a full one stays
@@ -29,32 +26,18 @@ unfoldable pub with_condition : Conditions → Condition → Conditions
 with_condition l y =
     pick (ltb l.count 4) (record { rows = set l.rows l.count (record { condition = y }); count = l.count + 1 }) l
 
--- no refusal
-abbrev pub unrefused : Refusal
-unrefused = record { number = 0; token = 0; detail = 0 }
+-- the answers of the code: the lists as the model holds them
+unfoldable pub to_whens : Res (List Trigger) → Taken Triggers
+to_whens (ok xs i) = Ok (triggers_of xs, at i)
+to_whens (no r) = Err r
 
-unfoldable pub to_whens : Res (List Trigger) → Whens
-to_whens (ok xs i) = record { accepted = true; refusal = unrefused; next = at i; list = triggers_of xs }
-to_whens (no r) = record { accepted = false; refusal = r; next = at 0; list = triggers_of [] }
+unfoldable pub to_ifs : Res (List Condition) → Taken Conditions
+to_ifs (ok ys i) = Ok (conditions_of ys, at i)
+to_ifs (no r) = Err r
 
-unfoldable pub to_ifs : Res (List Condition) → Ifs
-to_ifs (ok ys i) = record { accepted = true; refusal = unrefused; next = at i; list = conditions_of ys }
-to_ifs (no r) = record { accepted = false; refusal = r; next = at 0; list = conditions_of [] }
-
-unfoldable pub to_rule : Res Lists → Rule
-to_rule (ok l i) =
-    record { accepted = true; refusal = unrefused; triggers = triggers_of l.triggers; conditions = conditions_of l.conditions }
-to_rule (no r) = record { accepted = false; refusal = r; triggers = triggers_of []; conditions = conditions_of [] }
-
--- both lists, if the text is at an end; else 41
-unfoldable pub rule_end : (ℕ → Tok) → Triggers → Conditions → ℕ → Rule
-rule_end t xs ys i =
-    pick (eqb (t i).kind 0) (record { accepted = true; refusal = unrefused; triggers = xs; conditions = ys }) (to_rule (refuse 41 i))
-
--- the rule whose triggers are read already
-unfoldable pub rule_with : (ℕ → Tok) → Triggers → Res (List Condition) → Rule
-rule_with t xs (ok ys i) = rule_end t xs (conditions_of ys) i
-rule_with t xs (no r) = to_rule (no r)
+unfoldable pub to_rule : Res Lists → Result Rule Refusal
+to_rule (ok l i) = Ok (record { triggers = triggers_of l.triggers; conditions = conditions_of l.conditions })
+to_rule (no r) = Err r
 
 -- the settings of the same call with another habit
 unfoldable pub with_habit : Habit → Settings → Settings
@@ -74,6 +57,6 @@ answered words line column (ok l i) = accepted_with l.triggers l.conditions
 answered words line column (no r) = placed words line column r
 
 -- a call whose primary adapter is not its party's: question 4, then 53
-unfoldable pub not_own : Checked → Answer
-not_own WellFormed = refused_with 53 0 0 0
-not_own (IllFormed line column) = refused_with 4 line column 0
+unfoldable pub not_own : Result Unit IllFormed → Answer
+not_own (Ok _) = refused_with 53 0 0 0
+not_own (Err at) = refused_with 4 at.line at.column 0

@@ -1,35 +1,22 @@
 // The parts of a call's answer, and the lists as they grow.
-ghost use Rattle.std.specs.Prelude.{◌≡◌, true, false, [], ◌∷◌};
-ghost use Rattle.tokens.specs.Cursor.{at};
-ghost use Rattle.model.specs.Lists.{triggers_of, conditions_of, refused_with};
-ghost use Rattle.reader.specs.Parts.{with_condition, unrefused, placed};
+ghost use Rattle.std.specs.Prelude.{◌≡◌, [], ◌∷◌};
+ghost use Rattle.model.specs.Lists.{conditions_of};
+ghost use Rattle.reader.specs.Parts.{with_condition};
 
-use model::{Answer, Condition, ConditionRow, Conditions, Trigger, Triggers};
-use tokens::cursor::{Cursor, Refusal};
+use model::{Condition, ConditionRow, Conditions, Triggers};
 
-// The triggers and the cursor behind them, or a refusal.
+// The topics that count as lent: those of earlier rules, a line for each, and those that stand in another text where words say, a start
+// and a length for each.
 #[derive(Clone, Copy)]
-pub struct Whens {
-    pub accepted: bool,
-    pub refusal: Refusal,
-    pub next: Cursor,
-    pub list: Triggers,
+pub struct Lent<'a> {
+    pub lines: &'a [u8],
+    pub first: &'a [u8],
+    pub earlier: &'a [u32],
 }
 
-// The conditions and the cursor behind them, or a refusal.
-#[derive(Clone, Copy)]
-pub struct Ifs {
-    pub accepted: bool,
-    pub refusal: Refusal,
-    pub next: Cursor,
-    pub list: Conditions,
-}
-
-// Both lists, or a refusal.
+// Both lists of a rule.
 #[derive(Clone, Copy)]
 pub struct Rule {
-    pub accepted: bool,
-    pub refusal: Refusal,
     pub triggers: Triggers,
     pub conditions: Conditions,
 }

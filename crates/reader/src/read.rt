@@ -14,15 +14,12 @@ ghost use Rattle.language.specs.Read.{rule_in, on_accepted, rule_of, by_text, by
 ghost use Rattle.language.specs.Demand.{Exact};
 ghost use Rattle.reader.specs.Parts.{with_habit, to_rule, placed, answered, not_own};
 
-use crate::parts::Rule;
+use crate::parts::{Lent, Rule};
 use crate::section;
 use model::Answer;
-use sheet::rows::Verdict;
-use sheet::{Call, Habit, Settings, adapters};
+use sheet::{Call, Habit, Settings, View, adapters};
 use text::place;
-use text::place::Checked;
-use tokens::cursor::Refusal;
-use tokens::lexer::Lexed;
+use tokens::cursor::{Refusal, Tokens};
 
 // The place of a refusal is that of its token, or the end's.
 fn placed_at(words: &[u32], line: u32, column: u32, refusal: Refusal) -> Answer
@@ -41,193 +38,103 @@ fn placed_at(words: &[u32], line: u32, column: u32, refusal: Refusal) -> Answer
 }
 
 // The same settings in a call of another habit.
+#[tactic(auto, unfolding(crate::specs::Parts::with_habit))]
 fn with_habit(habit: Habit, settings: Settings) -> Settings
     ensures { result ≡ with_habit habit settings }
 {
-    let own = settings.own;
-    let listed = settings.listed;
-    Settings {
-        primary: settings.primary,
-        habit,
-        own,
-        listed,
-    }
+    Settings { habit, ..settings }
 }
 
 // The rule in the records under the shop profile, which is judged on an accepted reading: it is read twice.
-fn profiled_rule(
-    settings: Settings,
-    text: &[u8],
-    words: &[u32],
-    sheet: &[u8],
-    lent: &[u8],
-    first: &[u8],
-    earlier: &[u32],
-) -> Rule
-    ensures { result ≡ to_rule (on_accepted (rule_in text.now words.now (view_of (with_habit Habit.Rule settings) sheet.now) (lent_with lent.now first.now earlier.now)) (rule_in text.now words.now (view_of (with_habit Habit.Shop settings) sheet.now) (lent_with lent.now first.now earlier.now))) }
+#[tactic(auto, unfolding(language::specs::Read::on_accepted, crate::specs::Parts::to_rule))]
+fn profiled_rule(t: &Tokens<'_>, view: &View<'_>, lent: &Lent<'_>) -> Result<Rule, Refusal>
+    ensures { result ≡ to_rule (on_accepted (rule_in t.now.text.now t.now.words.now (view_of (with_habit Habit.Rule view.now.settings) view.now.sheet.now) (lent_with lent.now.lines.now lent.now.first.now lent.now.earlier.now)) (rule_in t.now.text.now t.now.words.now (view_of (with_habit Habit.Shop view.now.settings) view.now.sheet.now) (lent_with lent.now.lines.now lent.now.first.now lent.now.earlier.now))) }
 {
-    let full = section::rule(
-        text,
-        words,
-        sheet,
-        with_habit(Habit::Rule, settings),
-        lent,
-        first,
-        earlier,
-    );
-    if full.accepted {
-        return section::rule(
-            text,
-            words,
-            sheet,
-            with_habit(Habit::Shop, settings),
-            lent,
-            first,
-            earlier,
-        );
-    }
-    full
+    let full = View {
+        settings: with_habit(Habit::Rule, view.settings),
+        ..*view
+    };
+    section::rule(t, &full, lent)?;
+    let shop = View {
+        settings: with_habit(Habit::Shop, view.settings),
+        ..*view
+    };
+    section::rule(t, &shop, lent)
 }
 
 // The rule in the records.
-fn rule_of(
-    settings: Settings,
-    text: &[u8],
-    words: &[u32],
-    sheet: &[u8],
-    lent: &[u8],
-    first: &[u8],
-    earlier: &[u32],
-) -> Rule
-    ensures { result ≡ to_rule (rule_of text.now words.now (view_of settings sheet.now) (lent_with lent.now first.now earlier.now)) }
+fn rule_of(t: &Tokens<'_>, view: &View<'_>, lent: &Lent<'_>) -> Result<Rule, Refusal>
+    ensures { result ≡ to_rule (rule_of t.now.text.now t.now.words.now (view_of view.now.settings view.now.sheet.now) (lent_with lent.now.lines.now lent.now.first.now lent.now.earlier.now)) }
 {
-    let habit = settings.habit;
-    match habit {
-        Habit::Rule => section::rule(text, words, sheet, settings, lent, first, earlier),
-        Habit::Archive => section::rule(text, words, sheet, settings, lent, first, earlier),
-        Habit::Shop => profiled_rule(settings, text, words, sheet, lent, first, earlier),
+    match view.settings.habit {
+        Habit::Rule | Habit::Archive => section::rule(t, view, lent),
+        Habit::Shop => profiled_rule(t, view, lent),
     }
 }
 
 // Parses the tokens in the records; line and column are the end's.
-fn parse(
-    settings: Settings,
-    text: &[u8],
-    words: &[u32],
-    sheet: &[u8],
-    lent: &[u8],
-    first: &[u8],
-    earlier: &[u32],
-    line: u32,
-    column: u32,
-) -> Answer
-    ensures { result ≡ answered words.now line column (rule_of text.now words.now (view_of settings sheet.now) (lent_with lent.now first.now earlier.now)) }
+#[tactic(auto, unfolding(crate::specs::Parts::answered, crate::specs::Parts::to_rule, model::specs::Lists::accepted_with))]
+fn parse(t: &Tokens<'_>, view: &View<'_>, lent: &Lent<'_>, line: u32, column: u32) -> Answer
+    ensures { result ≡ answered t.now.words.now line column (rule_of t.now.text.now t.now.words.now (view_of view.now.settings view.now.sheet.now) (lent_with lent.now.lines.now lent.now.first.now lent.now.earlier.now)) }
 {
-    let rule = rule_of(settings, text, words, sheet, lent, first, earlier);
-    let triggers = rule.triggers;
-    let conditions = rule.conditions;
-    if rule.accepted {
-        return Answer {
+    match rule_of(t, view, lent) {
+        Ok(rule) => Answer {
             number: 0,
             line: 0,
             column: 0,
             detail: 0,
-            triggers,
-            conditions,
-        };
+            triggers: rule.triggers,
+            conditions: rule.conditions,
+        },
+        Err(refusal) => placed_at(t.words, line, column, refusal),
     }
-    let refusal = rule.refusal;
-    placed_at(words, line, column, refusal)
 }
 
 // The call from question 4 on, where its primary adapter is its party's. The lexer asks question 4 before it lexes the whole text; then the tokens are
 // parsed. Questions 1 and 2 are passed, here and below.
-fn read_text(
-    settings: Settings,
-    text: &[u8],
-    sheet: &[u8],
-    lent: &[u8],
-    first: &[u8],
-    earlier: &[u32],
-    words: &mut [u32],
-) -> Answer
+fn read_text(text: &[u8], view: &View<'_>, lent: &Lent<'_>, words: &mut [u32]) -> Answer
     requires { (length text.now ≤ most_bytes) × (least_words ≤ length words.old) }
-    ensures { (result ≡ (by_text text.now (view_of settings sheet.now) (lent_with lent.now first.now earlier.now) words.old true (check_of text.now)).answer) × (words.new ≡ (by_text text.now (view_of settings sheet.now) (lent_with lent.now first.now earlier.now) words.old true (check_of text.now)).buffer) }
+    ensures { (result ≡ (by_text text.now (view_of view.now.settings view.now.sheet.now) (lent_with lent.now.lines.now lent.now.first.now lent.now.earlier.now) words.old true (check_of text.now)).answer) × (words.new ≡ (by_text text.now (view_of view.now.settings view.now.sheet.now) (lent_with lent.now.lines.now lent.now.first.now lent.now.earlier.now) words.old true (check_of text.now)).buffer) }
 {
-    let lexed = tokens::lexer::lex(text, words);
-    match lexed {
-        Lexed::Refused {
-            number,
-            line,
-            column,
-        } => model::refused(number, line, column, 0),
-        Lexed::Tokens {
-            count,
-            line,
-            column,
-        } => parse(
-            settings,
-            text,
-            &words[..count * tokens::record::RECORD_SIZE],
-            sheet,
-            lent,
-            first,
-            earlier,
-            line,
-            column,
-        ),
+    match tokens::lexer::lex(text, words) {
+        Err(refusal) => model::refused(refusal.number, refusal.line, refusal.column, 0),
+        Ok(lexed) => {
+            let t = Tokens {
+                text,
+                words: &words[..lexed.count * tokens::record::RECORD_SIZE],
+            };
+            parse(&t, view, lent, lexed.line, lexed.column)
+        }
     }
 }
 
 // The call from question 4 on, where its primary adapter is not its party's.
+#[tactic(auto, using(crate::proofs::ReadLaws::not_own_by), unfolding(crate::specs::Parts::not_own))]
 fn not_own(text: &[u8]) -> Answer
     ensures { result ≡ not_own (check_of text.now) }
 {
-    let well = place::check_utf8(text);
-    match well {
-        Checked::IllFormed { line, column } => model::refused(4, line, column, 0),
-        Checked::WellFormed => model::refused(53, 0, 0, 0),
+    match place::check_utf8(text) {
+        Err(ill) => model::refused(4, ill.line, ill.column, 0),
+        Ok(()) => model::refused(53, 0, 0, 0),
     }
 }
 
 // The call from question 3 on.
-fn read_sheet(
-    call: Call,
-    text: &[u8],
-    sheet: &[u8],
-    lent: &[u8],
-    first: &[u8],
-    earlier: &[u32],
-    words: &mut [u32],
-) -> Answer
+fn read_sheet(call: Call, text: &[u8], sheet: &[u8], lent: &Lent<'_>, words: &mut [u32]) -> Answer
     requires { (length text.now ≤ most_bytes) × (least_words ≤ length words.old) }
-    ensures { (result ≡ (by_sheet text.now (seen call sheet.now) (lent_with lent.now first.now earlier.now) words.old (own_primary call sheet.now) (sheet_check sheet.now)).answer) × (words.new ≡ (by_sheet text.now (seen call sheet.now) (lent_with lent.now first.now earlier.now) words.old (own_primary call sheet.now) (sheet_check sheet.now)).buffer) }
+    ensures { (result ≡ (by_sheet text.now (seen call sheet.now) (lent_with lent.now.lines.now lent.now.first.now lent.now.earlier.now) words.old (own_primary call sheet.now) (sheet_check sheet.now)).answer) × (words.new ≡ (by_sheet text.now (seen call sheet.now) (lent_with lent.now.lines.now lent.now.first.now lent.now.earlier.now) words.old (own_primary call sheet.now) (sheet_check sheet.now)).buffer) }
 {
-    let primary = call.primary as u32;
-    let habit = call.habit;
-    let survey = sheet::rows::check(sheet, call.party as u32);
-    let said = survey.said;
-    let own = said.own;
-    let listed = said.listed;
-    let verdict = survey.verdict;
-    match verdict {
-        Verdict::BadLine(n) => model::refused(3, n, 0, 0),
-        Verdict::WellFormed => {
-            if adapters::has(own, primary) {
-                return read_text(
-                    Settings {
-                        primary,
-                        habit,
-                        own,
-                        listed,
-                    },
-                    text,
-                    sheet,
-                    lent,
-                    first,
-                    earlier,
-                    words,
-                );
+    match sheet::rows::check(sheet, call.party as u32) {
+        Err(bad) => model::refused(3, bad.line, 0, 0),
+        Ok(said) => {
+            let settings = Settings {
+                primary: call.primary as u32,
+                habit: call.habit,
+                own: said.own,
+                listed: said.listed,
+            };
+            if adapters::has(settings.own, settings.primary) {
+                return read_text(text, &View { sheet, settings }, lent, words);
             }
             not_own(text)
         }
@@ -254,7 +161,12 @@ pub fn read_after(
     if words.len() < tokens::lexer::LEAST_WORDS {
         return model::refused(2, 0, 0, 0);
     }
-    read_sheet(call, text, sheet, lent, first, earlier, words)
+    let lent = Lent {
+        lines: lent,
+        first,
+        earlier,
+    };
+    read_sheet(call, text, sheet, &lent, words)
 }
 
 // The call of any habit.

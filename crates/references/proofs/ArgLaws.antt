@@ -3,19 +3,15 @@ use Prim.Native.Nat.{ℕ, suc, ◌-◌}
 use mathlib.Core.Path.{◌≡◌, ◌∙◌, ap, sym}
 use native.Mathlib.Omega.{arith}
 use Rattle.tokens.specs.Result.{Res, ok, bind, perhaps}
-use Rattle.tokens.specs.Cursor.{Tok, is_kind, accepted}
+use Rattle.tokens.specs.Cursor.{Tok, is_kind, accepted, Taken, to_taken}
 use Rattle.tokens.specs.declared.cursor.Cursor.{Cursor}
 use Rattle.tokens.specs.declared.cursor.Refusal.{Refusal}
-use Rattle.tokens.specs.declared.cursor.Accepted.{Accepted}
-use Rattle.tokens.specs.declared.cursor.Accepted.TheVariants.{Yes, Left}
-use Rattle.tokens.proofs.Chain.{perhaps-yes, perhaps-no}
 use Rattle.sheet.specs.View.{View}
-use Rattle.references.specs.Args.{put, arg_at, count_with, args_from, to_item, to_args}
+use Rattle.references.specs.Args.{put, arg_at, count_with, args_from}
 use Rattle.references.specs.declared.args.Item.{Item}
 use Rattle.references.specs.declared.args.Args.{Args}
-use Rattle.references.specs.declared.args.ItemAnswer.{ItemAnswer}
-use Rattle.references.specs.declared.args.ArgsAnswer.{ArgsAnswer}
-use Rattle.references.proofs.ArgChain.{then-item, stop_item, args_ok, args-no}
+use Rattle.tokens.proofs.Chain.{taken-ok, taken-no, then-taken, stop_taken, perhaps-yes, perhaps-no}
+use Rattle.std.specs.Prelude.{Option, Some, None, Ok, Err}
 
 -- the arguments a are read, with left more allowed: what is left from i on gives the whole answer
 pub record Going (t : ℕ → Tok) (view : View) (whole : Res Args) (left : ℕ) (a : Args) (count i : ℕ) : Type 0 where
@@ -27,9 +23,9 @@ begin t view n none i e h = record { same = rw (e, h) }
 
 -- no more are allowed
 pub at-limit : {t : ℕ → Tok} {view : View} {whole : Res Args} {left : ℕ} {a : Args} {count i : ℕ} {r : Refusal} →
-    Going t view whole left a count i → left ≡ 0 → r ≡ record { number = 20; token = i; detail = 0 } → ArgsAnswer.No r ≡ to_args whole
+    Going t view whole left a count i → left ≡ 0 → r ≡ record { number = 20; token = i; detail = 0 } → Err r ≡ to_taken whole
 unfolding args_from
-at-limit {whole = whole} g h e = args-no whole (rw (g.same, h, e))
+at-limit {whole = whole} g h e = taken-no whole (rw (g.same, h, e))
 
 -- what follows an argument
 abbrev after : (ℕ → Tok) → View → ℕ → Args → ℕ → ℕ → Item → ℕ → Res Args
@@ -44,26 +40,26 @@ from_one t view left a count i h =
     ap (λ (n : ℕ). args_from t view n a count i) e
 
 -- the loop's body: one is the argument at i, or its refusal
-module _ {t : ℕ → Tok} {view : View} {whole : Res Args} {left : ℕ} {a : Args} {count i : ℕ} {one : ItemAnswer}
-    (going : Going t view whole left a count i) (more : left ≡ 0 → ⊥) (read : one ≡ to_item (arg_at t view a count i)) where
+module _ {t : ℕ → Tok} {view : View} {whole : Res Args} {left : ℕ} {a : Args} {count i : ℕ} {one : Taken Item}
+    (going : Going t view whole left a count i) (more : left ≡ 0 → ⊥) (read : one ≡ to_taken (arg_at t view a count i)) where
   turned : whole ≡ bind (arg_at t view a count i) (after t view (left - 1) a count i)
   turned = going.same ∙ from_one t view left a count i more
 
-  pub no-arg : {r : Refusal} → one ≡ ItemAnswer.No r → ArgsAnswer.No r ≡ to_args whole
-  no-arg m = args-no whole (stop_item (arg_at t view a count i) (after t view (left - 1) a count i) read m ∙ sym turned)
+  pub no-arg : {r : Refusal} → one ≡ Err r → Err r ≡ to_taken whole
+  no-arg m = taken-no whole (stop_taken (arg_at t view a count i) (after t view (left - 1) a count i) read m ∙ sym turned)
 
   -- comma is what stands behind the argument
-  module _ {item : Item} {next : Cursor} {b : Args} {comma : Accepted} (was : one ≡ ItemAnswer.Got item next) (stored : b ≡ put a item)
+  module _ {item : Item} {next : Cursor} {b : Args} {comma : Option Cursor} (was : one ≡ Ok (item, next)) (stored : b ≡ put a item)
       (asked : comma ≡ accepted (is_kind t 11 next.index) next.index) where
     then-after : {y : Res Args} → y ≡ after t view (left - 1) a count i item next.index → y ≡ whole
-    then-after h = then-item (arg_at t view a count i) (after t view (left - 1) a count i) read was h ∙ sym turned
+    then-after h = then-taken (arg_at t view a count i) (after t view (left - 1) a count i) read was h ∙ sym turned
 
-    pub last-arg : comma ≡ Left → ArgsAnswer.Got b next ≡ to_args whole
+    pub last-arg : comma ≡ None → Ok (b, next) ≡ to_taken whole
     last-arg m =
-        args_ok whole
+        taken-ok whole
         (then-after (perhaps-no (is_kind t 11 next.index) next.index _ _ asked m (ap (λ (x : Args). ok x next.index) stored)))
 
-    pub go_on : {n : ℕ} {behind : Cursor} → n ≡ count_with t count i → comma ≡ Yes behind →
+    pub go_on : {n : ℕ} {behind : Cursor} → n ≡ count_with t count i → comma ≡ Some behind →
         Going t view whole (left - 1) b n behind.index
     go_on counted m =
         record { same = sym (then-after (perhaps-yes (is_kind t 11 next.index) next.index _ _ asked m (rw (stored, counted)))) }

@@ -23,9 +23,7 @@ use Rattle.references.specs.Grammar.{slot, TypeOf, number, button, absolute, occ
 use Rattle.sheet.specs.declared.resolve.Scope.{Scope}
 use Rattle.sheet.specs.declared.resolve.Scope.TheVariants.{Any, On}
 use Rattle.model.specs.declared.Ref.{Ref}
-use Rattle.references.specs.declared.args.Dev.{Dev}
-use Rattle.model.specs.declared.Number.{Number}
-use Rattle.references.specs.declared.args.GroupArg.{GroupArg}
+use Rattle.references.specs.declared.refs.NameOrId.{NameOrId}
 use Rattle.references.specs.declared.args.Item.{Item}
 use Rattle.references.specs.declared.args.Args.{Args}
 use Rattle.model.specs.declared.Selector.{Selector}
@@ -33,6 +31,7 @@ use Rattle.tokens.proofs.Okay.{Okay, bind_ok, pick-ok, perhaps-ok, mapped, both_
 use Rattle.references.proofs.RefSound.{name_or_id-sound, adapter-sound, refers-sound}
 use Rattle.references.proofs.RepeatLaws.{Fresh, fresh_end, fresh, fresh-allowed}
 use Rattle.references.proofs.ItemLaws.{puts, put_all, items_from, args-items, DevIn, no_dev, dev, dev-left, InstIn, no_inst, inst, inst-left, GroupIn, no_group, in_group, group-left, type-left, scope-left}
+use Rattle.std.specs.Prelude.{Option}
 
 -- what a key and a type's word are
 data Key : ℕ → List ℕ → Type 0 where
@@ -186,7 +185,7 @@ module _ (t : ℕ → Tok) (view : View) where
   -- what the items select, for any form that ends with it
   module _ (G : Selector → ℕ → Type 0) (xs : List Item) (close next : ℕ) (ends : (s : Selector) → Selects t view xs s → G s next) where
     -- fields that hold what the items say are judged as the grammar does
-    judged : {d : Dev} {n : Number} {g : GroupArg} {k : Number} {s : Scope} →
+    judged : {d : Option NameOrId} {n : Option ℕ} {g : Option (ℕ × ℕ)} {k : Option ℕ} {s : Scope} →
         DevIn xs d → InstIn xs n → GroupIn xs g → Typed xs k → Scoped xs s →
         Okay G (selected t view (record { dev = d; inst = n; group = g; kind = k; scope = s }) close next)
     unfolding selected with_group with_dev with_inst device_instance is_dev is_number

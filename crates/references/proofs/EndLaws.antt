@@ -10,11 +10,12 @@ use Rattle.tokens.specs.Result.{Res, ok, no, bind, perhaps}
 use Rattle.tokens.specs.Cursor.{Tok, take_kind, take_word, take_in}
 use Rattle.tokens.specs.Phrase.{choice_by, choice_at, take_words, phrase_at, either_at, point_choice, phrase_choice, point_phrase, words_in}
 use Rattle.tokens.proofs.Okay.{Okay}
-use Rattle.sheet.specs.declared.resolve.Found.{Found}
-use Rattle.sheet.specs.declared.resolve.Found.TheVariants.{One, Refused}
+use Rattle.model.specs.declared.Ref.{Ref}
+use Rattle.sheet.specs.declared.resolve.Unfound.{Unfound}
 use Rattle.model.specs.declared.Selector.{Selector}
 use Rattle.references.specs.Refs.{checked_name, closed_name, quoted_name, dev_name, found_at}
 use Rattle.references.specs.Args.{key_slot, named_slot, unnamed_slot, slot_at, input_type_value, one_instance}
+use Rattle.std.specs.Prelude.{Result, Ok, Err}
 
 -- the next index, if there is a value, is i or behind it
 unfoldable pub Ends : {A : Type 0} → ℕ → Res A → Type 0
@@ -123,10 +124,10 @@ module _ (t : ℕ → Tok) where
   unfolding input_type_value
   ends-type i = search (end-parts, ends_in)
 
-pub ends_found : (i j : ℕ) (x : Found) → Ends j (found_at i j x)
+pub ends_found : (i j : ℕ) (x : Result Ref Unfound) → Ends j (found_at i j x)
 unfolding found_at
-ends_found i j (One adapter number) = search end-parts
-ends_found i j (Refused number detail) = search end-parts
+ends_found i j (Ok ref) = search end-parts
+ends_found i j (Err e) = search end-parts
 
 pub ends-one : (paren i : ℕ) (s : Selector) → Ends i (one_instance paren i s)
 unfolding one_instance

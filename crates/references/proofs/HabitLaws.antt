@@ -21,11 +21,9 @@ use Rattle.sheet.specs.declared.resolve.Scope.TheVariants.{Any, On}
 use Rattle.references.specs.declared.refs.NameOrId.{NameOrId}
 use Rattle.references.specs.declared.refs.NameOrId.TheVariants.{Name, Id}
 use Rattle.references.specs.declared.args.Args.{Args}
-use Rattle.references.specs.declared.args.Dev.{Dev}
-use Rattle.model.specs.declared.Number.{Number}
 use Rattle.model.specs.declared.Selector.{Selector}
-use Rattle.references.specs.declared.args.GroupArg.{GroupArg}
 use Rattle.references.proofs.EndLaws.{Ends, ends-earlier, ends-no, ends-bind, ends-pick, ends}
+use Rattle.std.specs.Prelude.{Option, Some, None}
 
 -- the same of the sheet, with repeats or without, and with the forms where they are allowed
 abbrev pub allowing : View → Bool → (ℕ → Bool) → View
@@ -257,20 +255,20 @@ module _ (t : ℕ → Tok) (calls : Calls) where
   compared-args (suc fuel) a count i = search (compared-parts, compared-arg, compared-args fuel)
 
   -- the arguments judged
-  compared-inst : (scope : Scope) (close : ℕ) (d : NameOrId) (n : Number) → Compares (λ view i. with_inst t view scope close i d n)
+  compared-inst : (scope : Scope) (close : ℕ) (d : NameOrId) (n : Option ℕ) → Compares (λ view i. with_inst t view scope close i d n)
   unfolding with_inst device_instance
-  compared-inst scope close d Number.Absent i = search compared-parts
-  compared-inst scope close d (Number.Is n) i = search (compared-parts, compared-referred)
+  compared-inst scope close d None i = search compared-parts
+  compared-inst scope close d (Some n) i = search (compared-parts, compared-referred)
 
-  compared-dev : (a : Args) (close : ℕ) (d : Dev) → Compares (λ view i. with_dev t view a close i d)
+  compared-dev : (a : Args) (close : ℕ) (d : Option NameOrId) → Compares (λ view i. with_dev t view a close i d)
   unfolding with_dev
-  compared-dev a close Dev.Absent i = search compared-parts
-  compared-dev a close (Dev.Is d) i = compared-inst _ _ d a.inst i
+  compared-dev a close None i = search compared-parts
+  compared-dev a close (Some d) i = compared-inst _ _ d a.inst i
 
-  compared-with_group : (a : Args) (close : ℕ) (g : GroupArg) → Compares (λ view i. with_group t view a close i g)
+  compared-with_group : (a : Args) (close : ℕ) (g : Option (ℕ × ℕ)) → Compares (λ view i. with_group t view a close i g)
   unfolding with_group
-  compared-with_group a close GroupArg.Absent i = compared-dev a close a.dev i
-  compared-with_group a close (GroupArg.Is g j) i =
+  compared-with_group a close None i = compared-dev a close a.dev i
+  compared-with_group a close (Some (g, j)) i =
       compared-primary (λ p k. pick (is_dev a.dev) (refuse 27 j) (pick (is_number a.inst) (refuse 27 j) (ok (Selector.Group p g a.kind) k)))
       (λ p k. search ends) a.scope i
 

@@ -14,11 +14,9 @@ use Rattle.references.specs.Args.{put, no_args, arg_at, count_with, args_from}
 use Rattle.references.specs.Grammar.{slot, Without, none, past, Last, last, later, Scoped, nowhere, somewhere, Typed, untyped, typed}
 use Rattle.sheet.specs.declared.resolve.Scope.{Scope}
 use Rattle.references.specs.declared.refs.NameOrId.{NameOrId}
-use Rattle.references.specs.declared.args.Dev.{Dev}
-use Rattle.model.specs.declared.Number.{Number}
-use Rattle.references.specs.declared.args.GroupArg.{GroupArg}
 use Rattle.references.specs.declared.args.Item.{Item}
 use Rattle.references.specs.declared.args.Args.{Args}
+use Rattle.std.specs.Prelude.{Option, Some, None}
 
 -- items put one after the other
 abbrev pub puts : Args → List Item → Args
@@ -144,17 +142,17 @@ module _ {F : Type 0} (k : ℕ) (get : Args → F)
 
 -- Each field: that argument's last item, or nothing if there is none (X-left), and only that (X-is). Scoped and Typed of the grammar say
 -- it of the adapter and the type.
-pub data DevIn (xs : List Item) : Dev → Type 0 where
-  no_dev : Without dev_slot xs → DevIn xs Dev.Absent
-  dev : {d : NameOrId} → Last dev_slot xs (Item.Device d) → DevIn xs (Dev.Is d)
+pub data DevIn (xs : List Item) : Option NameOrId → Type 0 where
+  no_dev : Without dev_slot xs → DevIn xs None
+  dev : {d : NameOrId} → Last dev_slot xs (Item.Device d) → DevIn xs (Some d)
 
-pub data InstIn (xs : List Item) : Number → Type 0 where
-  no_inst : Without inst_slot xs → InstIn xs Number.Absent
-  inst : {n : ℕ} → Last inst_slot xs (Item.Instance n) → InstIn xs (Number.Is n)
+pub data InstIn (xs : List Item) : Option ℕ → Type 0 where
+  no_inst : Without inst_slot xs → InstIn xs None
+  inst : {n : ℕ} → Last inst_slot xs (Item.Instance n) → InstIn xs (Some n)
 
-pub data GroupIn (xs : List Item) : GroupArg → Type 0 where
-  no_group : Without group_slot xs → GroupIn xs GroupArg.Absent
-  in_group : {g i : ℕ} → Last group_slot xs (Item.Group g i) → GroupIn xs (GroupArg.Is g i)
+pub data GroupIn (xs : List Item) : Option (ℕ × ℕ) → Type 0 where
+  no_group : Without group_slot xs → GroupIn xs None
+  in_group : {g i : ℕ} → Last group_slot xs (Item.Group g i) → GroupIn xs (Some (g, i))
 
 last-dev : {xs : List Item} (x : Item) → Of dev_slot x → Last dev_slot xs x → DevIn xs (put no_args x).dev
 unfolding put
@@ -164,7 +162,7 @@ pub dev-left : (xs : List Item) → DevIn xs (puts no_args xs).dev
 unfolding no_args
 dev-left xs = left dev_slot (λ a. a.dev) (λ a x. refl) (DevIn xs) xs no_dev last-dev
 
-pub dev-is : {xs : List Item} {v : Dev} → DevIn xs v → (puts no_args xs).dev ≡ v
+pub dev-is : {xs : List Item} {v : Option NameOrId} → DevIn xs v → (puts no_args xs).dev ≡ v
 unfolding no_args put
 dev-is (no_dev w) = without-left dev_slot (λ a. a.dev) (λ a x. refl) no_args w
 dev-is (dev l) = last-left dev_slot (λ a. a.dev) (λ a x. refl) no_args l
@@ -177,7 +175,7 @@ pub inst-left : (xs : List Item) → InstIn xs (puts no_args xs).inst
 unfolding no_args
 inst-left xs = left inst_slot (λ a. a.inst) (λ a x. refl) (InstIn xs) xs no_inst last-inst
 
-pub inst-is : {xs : List Item} {v : Number} → InstIn xs v → (puts no_args xs).inst ≡ v
+pub inst-is : {xs : List Item} {v : Option ℕ} → InstIn xs v → (puts no_args xs).inst ≡ v
 unfolding no_args put
 inst-is (no_inst w) = without-left inst_slot (λ a. a.inst) (λ a x. refl) no_args w
 inst-is (inst l) = last-left inst_slot (λ a. a.inst) (λ a x. refl) no_args l
@@ -190,7 +188,7 @@ pub group-left : (xs : List Item) → GroupIn xs (puts no_args xs).group
 unfolding no_args
 group-left xs = left group_slot (λ a. a.group) (λ a x. refl) (GroupIn xs) xs no_group last_group_lem
 
-pub group-is : {xs : List Item} {v : GroupArg} → GroupIn xs v → (puts no_args xs).group ≡ v
+pub group-is : {xs : List Item} {v : Option (ℕ × ℕ)} → GroupIn xs v → (puts no_args xs).group ≡ v
 unfolding no_args put
 group-is (no_group w) = without-left group_slot (λ a. a.group) (λ a x. refl) no_args w
 group-is (in_group l) = last-left group_slot (λ a. a.group) (λ a x. refl) no_args l
@@ -203,7 +201,7 @@ pub type-left : (xs : List Item) → Typed xs (puts no_args xs).kind
 unfolding no_args
 type-left xs = left type_slot (λ a. a.kind) (λ a x. refl) (Typed xs) xs untyped last-type
 
-pub type-is : {xs : List Item} {v : Number} → Typed xs v → (puts no_args xs).kind ≡ v
+pub type-is : {xs : List Item} {v : Option ℕ} → Typed xs v → (puts no_args xs).kind ≡ v
 unfolding no_args put
 type-is (untyped w) = without-left type_slot (λ a. a.kind) (λ a x. refl) no_args w
 type-is (typed l) = last-left type_slot (λ a. a.kind) (λ a x. refl) no_args l

@@ -1,5 +1,3 @@
-pub mod RefChain
-pub mod ArgChain
 pub mod ArgLaws
 pub mod RefSound
 pub mod RefComplete

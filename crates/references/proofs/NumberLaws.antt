@@ -21,11 +21,9 @@ use Rattle.sheet.specs.declared.resolve.Scope.{Scope}
 use Rattle.references.specs.declared.refs.NameOrId.{NameOrId}
 use Rattle.references.specs.declared.refs.NameOrId.TheVariants.{Name, Id}
 use Rattle.references.specs.declared.args.Args.{Args}
-use Rattle.references.specs.declared.args.Dev.{Dev}
-use Rattle.model.specs.declared.Number.{Number}
-use Rattle.references.specs.declared.args.GroupArg.{GroupArg}
 use Rattle.model.specs.declared.Selector.{Selector}
 use Rattle.tokens.proofs.Okay.{both_true}
+use Rattle.std.specs.Prelude.{Option, Some, None}
 
 -- the numbers with which a rule is refused: 20 to 41, and of document 02 50, a word that is no day, 57 to 59, the shop profile's, 63, a repeated
 -- argument, and 64 to 66, which are about topics
@@ -193,20 +191,20 @@ module _ (t : ℕ → Tok) (view : View) where
   args-refuses (suc fuel) a count i = search (numbers, arg-refuses, args-refuses fuel)
 
   -- the arguments judged
-  inst-refuses : (scope : Scope) (close next : ℕ) (d : NameOrId) (n : Number) → Refuses (with_inst t view scope close next d n)
+  inst-refuses : (scope : Scope) (close next : ℕ) (d : NameOrId) (n : Option ℕ) → Refuses (with_inst t view scope close next d n)
   unfolding with_inst device_instance
-  inst-refuses scope close next d Number.Absent = search numbers
-  inst-refuses scope close next d (Number.Is n) = search (numbers, referred-refuses)
+  inst-refuses scope close next d None = search numbers
+  inst-refuses scope close next d (Some n) = search (numbers, referred-refuses)
 
-  dev-refuses : (a : Args) (close next : ℕ) (d : Dev) → Refuses (with_dev t view a close next d)
+  dev-refuses : (a : Args) (close next : ℕ) (d : Option NameOrId) → Refuses (with_dev t view a close next d)
   unfolding with_dev
-  dev-refuses a close next Dev.Absent = search numbers
-  dev-refuses a close next (Dev.Is d) = search inst-refuses
+  dev-refuses a close next None = search numbers
+  dev-refuses a close next (Some d) = search inst-refuses
 
-  with_group-refuses : (a : Args) (close next : ℕ) (g : GroupArg) → Refuses (with_group t view a close next g)
+  with_group-refuses : (a : Args) (close next : ℕ) (g : Option (ℕ × ℕ)) → Refuses (with_group t view a close next g)
   unfolding with_group
-  with_group-refuses a close next GroupArg.Absent = search dev-refuses
-  with_group-refuses a close next (GroupArg.Is g i) = search numbers
+  with_group-refuses a close next None = search dev-refuses
+  with_group-refuses a close next (Some (g, i)) = search numbers
 
   pub selector-refuses : (fuel i : ℕ) → Refuses (input_selector t view fuel i)
   unfolding input_selector close_args selected

@@ -15,10 +15,10 @@ use Rattle.references.specs.Grammar.{Adapter, Clause, Refers, Inside, R, Lamp, G
 use Rattle.references.specs.declared.refs.NameOrId.{NameOrId}
 use Rattle.references.specs.declared.args.Item.{Item}
 use Rattle.model.specs.declared.Ref.{Ref}
-use Rattle.model.specs.declared.Number.{Number}
 use Rattle.model.specs.declared.Selector.{Selector}
 use Rattle.model.specs.declared.InputRef.{InputRef}
 use Rattle.model.specs.declared.LightTarget.{LightTarget}
+use Rattle.std.specs.Prelude.{Option}
 
 pub up_to_in : {t : ℕ → Tok} {most i n j : ℕ} → UpTo t most i n j → n ≤ most
 up_to_in (up_to h l) = l
@@ -72,7 +72,7 @@ scoped_in : {xs : List Item} {scope : Scope} → Each ItemInRange xs → Scoped 
 scoped_in e (Scoped.nowhere w) = tt
 scoped_in e (Scoped.somewhere l) = last_in e l
 
-typed_in : {xs : List Item} {kind : Number} → Each ItemInRange xs → Typed xs kind → TypeInRange kind
+typed_in : {xs : List Item} {kind : Option ℕ} → Each ItemInRange xs → Typed xs kind → TypeInRange kind
 unfolding TypeInRange
 typed_in e (Typed.untyped w) = tt
 typed_in e (Typed.typed l) = last_in e l

@@ -18,13 +18,13 @@ use Rattle.tokens.specs.Grammar.{Token, Word}
 use Rattle.references.specs.Grammar.{Quoted, quoted, Q, q, NameOrIdOf, name, id, Adapter, Clause, no_clause, clause, Refers, row, on_primary, on_adapter_rule, Inside, inside, R, r, Lamp, Group, Device, InputDevice, plain, with_dev_rule, Target, lamp, broadcast}
 use Rattle.sheet.specs.declared.resolve.Scope.{Scope}
 use Rattle.sheet.specs.declared.resolve.Scope.TheVariants.{Any, On}
-use Rattle.sheet.specs.declared.resolve.Found.{Found}
-use Rattle.sheet.specs.declared.resolve.Found.TheVariants.{One, Refused}
+use Rattle.sheet.specs.declared.resolve.Unfound.{Unfound}
 use Rattle.model.specs.declared.Ref.{Ref}
 use Rattle.references.specs.declared.refs.NameOrId.{NameOrId}
 use Rattle.references.specs.declared.refs.NameOrId.TheVariants.{Name, Id}
 use Rattle.sheet.proofs.ResolveLaws.{picks-sound}
 use Rattle.tokens.proofs.Okay.{Okay, bind_ok, pick-ok, perhaps-ok, mapped, is_kind_lem, is_word_lem, kind-sound, word_sound, up_to-sound}
+use Rattle.std.specs.Prelude.{Result, Ok, Err}
 
 -- a name of 1 to 48 bytes; the value is the token's number, which no form uses
 pub checked_name-sound : (t : ℕ → Tok) (i : ℕ) → Okay (λ n j. Quoted t i j) (checked_name t i)
@@ -62,11 +62,11 @@ name_or_id-sound t view i =
     (λ n j h. pick-ok G (view.allows i) _ _ (λ may. id h may) (λ may. tt)))
 
 -- what was found, for any form that ends with it
-found-sound : (G : Ref → ℕ → Type 0) (i j : ℕ) (f : Found) →
-    ((a n : ℕ) → f ≡ One a n → G (record { adapter = a; number = n }) j) → Okay G (found_at i j f)
+found-sound : (G : Ref → ℕ → Type 0) (i j : ℕ) (f : Result Ref Unfound) →
+    ((r : Ref) → f ≡ Ok r → G r j) → Okay G (found_at i j f)
 unfolding found_at
-found-sound G i j (One a n) h = h a n refl
-found-sound G i j (Refused number detail) h = tt
+found-sound G i j (Ok ref) h = h ref refl
+found-sound G i j (Err e) h = tt
 
 module _ (t : ℕ → Tok) (view : View) where
   pub adapter-sound : (i : ℕ) → Okay (Adapter t view i) (adapter_number t view i)
@@ -111,7 +111,7 @@ module _ (t : ℕ → Tok) (view : View) where
     unfolding referred scope_or_primary
     refers-sound G (Name i) scope j h =
         found-sound G i j (pick_named kind (t i).bytes scope view.rows)
-        (λ a n e. let p = picks-sound kind (t i).bytes scope view.rows e in h _ (row_is p.1 p.2 p.3))
+        (λ r e. let p = picks-sound kind (t i).bytes scope view.rows e in h _ (row_is p.1 p.2 p.3))
     refers-sound G (Id n i) Any j h = pick-ok G (leb n most) _ _ (λ e. h _ (on_primary (leb-true _ _ e))) (λ e. tt)
     refers-sound G (Id n i) (On a) j h = pick-ok G (leb n most) _ _ (λ e. h _ (on_adapter_rule (leb-true _ _ e))) (λ e. tt)
 

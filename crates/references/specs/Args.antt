@@ -1,11 +1,11 @@
 -- ARGS: `(` arguments parted by commas `)` (document 01, "Grammar", and questions 21, 22, 25 to 30; document 02 §11, 63).
-use Rattle.std.specs.Prelude.{ℕ, zero, suc, ◌+◌, List, Bool, true, false, ltb, eqb}
+use Rattle.std.specs.Prelude.{ℕ, zero, suc, ◌+◌, List, Bool, true, false, ltb, eqb, Option, Some, None}
 use Rattle.text.specs.Choice.{pick}
 use Rattle.text.specs.Literal.{ascii}
 use Rattle.text.specs.Part.{same_bytes}
-use Rattle.tokens.specs.Result.{Res, ok, no, bind, perhaps, refuse}
+use Rattle.tokens.specs.Result.{Res, ok, bind, perhaps, refuse}
 use Rattle.tokens.specs.Kind.{WORD, OPEN, CLOSE, COMMA, ASSIGN}
-use Rattle.tokens.specs.Cursor.{Tok, is_kind, take_kind, take_in, at}
+use Rattle.tokens.specs.Cursor.{Tok, is_kind, take_kind, take_in}
 use Rattle.model.specs.Limits.{last_short_address, last_instance, last_instance_group, last_instance_type}
 use Rattle.sheet.specs.Kind.{input_kind}
 use Rattle.sheet.specs.View.{View}
@@ -14,17 +14,10 @@ use Rattle.references.specs.Refs.{name_or_id, adapter_number, scope_or_primary, 
 use Rattle.sheet.specs.declared.resolve.Scope.{Scope}
 use Rattle.sheet.specs.declared.resolve.Scope.TheVariants.{Any, On}
 use Rattle.references.specs.declared.refs.NameOrId.{NameOrId}
-use Rattle.references.specs.declared.args.Dev.{Dev}
-use Rattle.model.specs.declared.Number.{Number}
-use Rattle.references.specs.declared.args.GroupArg.{GroupArg}
 use Rattle.model.specs.declared.InputRef.{InputRef}
 use Rattle.references.specs.declared.args.Item.{Item}
 use Rattle.references.specs.declared.args.Args.{Args}
 use Rattle.model.specs.declared.Selector.{Selector}
-use Rattle.references.specs.declared.args.ItemAnswer.{ItemAnswer}
-use Rattle.references.specs.declared.args.ArgsAnswer.{ArgsAnswer}
-use Rattle.references.specs.declared.args.SelectorAnswer.{SelectorAnswer}
-use Rattle.references.specs.declared.args.InputAnswer.{InputAnswer}
 
 -- which argument a key names
 unfoldable pub slot_of : List ℕ → ℕ
@@ -91,17 +84,17 @@ item_at t view slot i =
     (pick (eqb slot type_slot) (type_item t i) (adapter_item t view i))))
 
 -- whether there is one
-unfoldable pub is_dev : Dev → Bool
-is_dev Dev.Absent = false
-is_dev (Dev.Is d) = true
+unfoldable pub is_dev : Option NameOrId → Bool
+is_dev None = false
+is_dev (Some d) = true
 
-unfoldable pub is_number : Number → Bool
-is_number Number.Absent = false
-is_number (Number.Is n) = true
+unfoldable pub is_number : Option ℕ → Bool
+is_number None = false
+is_number (Some n) = true
 
-unfoldable pub is_group : GroupArg → Bool
-is_group GroupArg.Absent = false
-is_group (GroupArg.Is n i) = true
+unfoldable pub is_group : Option (ℕ × ℕ) → Bool
+is_group None = false
+is_group (Some (n, i)) = true
 
 unfoldable pub is_on : Scope → Bool
 is_on Any = false
@@ -122,18 +115,18 @@ is_repeat repeats a slot = pick repeats false (is_set a slot)
 -- "A repeated argument replaces the earlier one", where it may be repeated.
 unfoldable pub put : Args → Item → Args
 put a (Item.Device d) =
-    record { dev = Dev.Is d; inst = a.inst; group = a.group; kind = a.kind; scope = a.scope }
+    record { dev = Some d; inst = a.inst; group = a.group; kind = a.kind; scope = a.scope }
 put a (Item.Instance n) =
-    record { dev = a.dev; inst = Number.Is n; group = a.group; kind = a.kind; scope = a.scope }
+    record { dev = a.dev; inst = Some n; group = a.group; kind = a.kind; scope = a.scope }
 put a (Item.Group n i) =
-    record { dev = a.dev; inst = a.inst; group = GroupArg.Is n i; kind = a.kind; scope = a.scope }
+    record { dev = a.dev; inst = a.inst; group = Some (n, i); kind = a.kind; scope = a.scope }
 put a (Item.Type n) =
-    record { dev = a.dev; inst = a.inst; group = a.group; kind = Number.Is n; scope = a.scope }
+    record { dev = a.dev; inst = a.inst; group = a.group; kind = Some n; scope = a.scope }
 put a (Item.Adapter n) =
     record { dev = a.dev; inst = a.inst; group = a.group; kind = a.kind; scope = On n }
 
 unfoldable pub no_args : Args
-no_args = record { dev = Dev.Absent; inst = Number.Absent; group = GroupArg.Absent; kind = Number.Absent; scope = Any }
+no_args = record { dev = None; inst = None; group = None; kind = None; scope = Any }
 
 -- one argument behind those in a, of which count are unnamed. Document 02: "It refuses an argument that sets one already set, named or not,
 -- with 63 at its first token, whichever stands there or at the end, before its value is read but after 26."
@@ -160,19 +153,19 @@ device_instance t view scope next d n =
     bind (referred t view input_kind last_short_address scope next d) (λ r j. ok (Selector.Instance r n) j)
 
 -- "Inst there? 29, at `)`."
-unfoldable pub with_inst : (ℕ → Tok) → View → Scope → ℕ → ℕ → NameOrId → Number → Res Selector
-with_inst t view scope close next d Number.Absent = refuse 29 close
-with_inst t view scope close next d (Number.Is n) = device_instance t view scope next d n
+unfoldable pub with_inst : (ℕ → Tok) → View → Scope → ℕ → ℕ → NameOrId → Option ℕ → Res Selector
+with_inst t view scope close next d None = refuse 29 close
+with_inst t view scope close next d (Some n) = device_instance t view scope next d n
 
 -- "Dev or group there? 28, at `)`."
-unfoldable pub with_dev : (ℕ → Tok) → View → Args → ℕ → ℕ → Dev → Res Selector
-with_dev t view a close next Dev.Absent = refuse 28 close
-with_dev t view a close next (Dev.Is d) = with_inst t view a.scope close next d a.inst
+unfoldable pub with_dev : (ℕ → Tok) → View → Args → ℕ → ℕ → Option NameOrId → Res Selector
+with_dev t view a close next None = refuse 28 close
+with_dev t view a close next (Some d) = with_inst t view a.scope close next d a.inst
 
 -- "Group without dev and inst? 27, at the last group number." "Type counts only with group."
-unfoldable pub with_group : (ℕ → Tok) → View → Args → ℕ → ℕ → GroupArg → Res Selector
-with_group t view a close next GroupArg.Absent = with_dev t view a close next a.dev
-with_group t view a close next (GroupArg.Is g i) =
+unfoldable pub with_group : (ℕ → Tok) → View → Args → ℕ → ℕ → Option (ℕ × ℕ) → Res Selector
+with_group t view a close next None = with_dev t view a close next a.dev
+with_group t view a close next (Some (g, i)) =
     pick (is_dev a.dev) (refuse 27 i)
     (pick (is_number a.inst) (refuse 27 i)
     (ok (Selector.Group (scope_or_primary view a.scope) g a.kind) next))
@@ -196,20 +189,3 @@ one_instance paren next (Selector.Group a g k) = refuse 30 paren
 
 unfoldable pub input_ref : (ℕ → Tok) → View → ℕ → ℕ → Res InputRef
 input_ref t view fuel i = bind (input_selector t view fuel i) (λ s j. one_instance i j s)
-
--- the answers of the code
-unfoldable pub to_item : Res Item → ItemAnswer
-to_item (ok x i) = ItemAnswer.Got x (at i)
-to_item (no r) = ItemAnswer.No r
-
-unfoldable pub to_args : Res Args → ArgsAnswer
-to_args (ok x i) = ArgsAnswer.Got x (at i)
-to_args (no r) = ArgsAnswer.No r
-
-unfoldable pub to_selector : Res Selector → SelectorAnswer
-to_selector (ok x i) = SelectorAnswer.Got x (at i)
-to_selector (no r) = SelectorAnswer.No r
-
-unfoldable pub to_input : Res InputRef → InputAnswer
-to_input (ok x i) = InputAnswer.Got x (at i)
-to_input (no r) = InputAnswer.No r

@@ -1,7 +1,7 @@
 -- The grammar of references (document 01, "Grammar"): which readings the tokens t have with what is seen of the sheet. `Form t … i v j`: the tokens
 -- from i up to j read as v. No rule mentions a function of the reader or a definition of what is answered (Refs.antt, Args.antt); names and
 -- ids, adapters and arguments have the types that the reader has for them.
-use Rattle.std.specs.Prelude.{ℕ, ◌≤◌, ◌≡◌, Bool, true, List, [], ◌∷◌, length}
+use Rattle.std.specs.Prelude.{ℕ, ◌≤◌, ◌≡◌, Bool, true, List, [], ◌∷◌, length, Option, Some, None}
 use Rattle.text.specs.Literal.{ascii}
 use Rattle.tokens.specs.Kind.{STRING, INTEGER, OPEN, CLOSE, COMMA, ASSIGN}
 use Rattle.tokens.specs.Cursor.{Tok}
@@ -18,7 +18,6 @@ use Rattle.model.specs.declared.Ref.{Ref}
 use Rattle.references.specs.declared.refs.NameOrId.{NameOrId}
 use Rattle.references.specs.declared.refs.NameOrId.TheVariants.{Name, Id}
 use Rattle.model.specs.declared.LightTarget.{LightTarget}
-use Rattle.model.specs.declared.Number.{Number}
 use Rattle.references.specs.declared.args.Item.{Item}
 use Rattle.model.specs.declared.Selector.{Selector}
 use Rattle.model.specs.declared.InputRef.{InputRef}
@@ -152,16 +151,16 @@ pub data OnAdapter (view : View) : Scope → ℕ → Type 0 where
   given : {a : ℕ} → OnAdapter view (On a) a
 
 -- the type among the items
-pub data Typed : List Item → Number → Type 0 where
-  untyped : {xs : List Item} → Without type_slot xs → Typed xs Number.Absent
-  typed : {xs : List Item} {n : ℕ} → Last type_slot xs (Item.Type n) → Typed xs (Number.Is n)
+pub data Typed : List Item → Option ℕ → Type 0 where
+  untyped : {xs : List Item} → Without type_slot xs → Typed xs None
+  typed : {xs : List Item} {n : ℕ} → Last type_slot xs (Item.Type n) → Typed xs (Some n)
 
 -- what the items select: an instance of a device, or an instance group, of which type counts only with group
 pub data Selects (t : ℕ → Tok) (view : View) : List Item → Selector → Type 0 where
   instance : {xs : List Item} {d : NameOrId} {n : ℕ} {scope : Scope} {ref : Ref} → Without group_slot xs → Last dev_slot xs (Item.Device d) →
       Last inst_slot xs (Item.Instance n) → Scoped xs scope → Refers t view input_kind last_short_address d scope ref →
       Selects t view xs (Selector.Instance ref n)
-  instances : {xs : List Item} {g i a : ℕ} {scope : Scope} {kind : Number} → Last group_slot xs (Item.Group g i) → Without dev_slot xs → Without inst_slot xs →
+  instances : {xs : List Item} {g i a : ℕ} {scope : Scope} {kind : Option ℕ} → Last group_slot xs (Item.Group g i) → Without dev_slot xs → Without inst_slot xs →
       Scoped xs scope → OnAdapter view scope a → Typed xs kind → Selects t view xs (Selector.Group a g kind)
 
 -- ARGS is `(` arguments parted by commas `)`

@@ -1,28 +1,22 @@
 -- R, DEV, TARGET and Q: what is answered for a reference at a token (document 01, "Grammar", and questions 20 to 34).
 -- t is the tokens, view what the call sees of the sheet.
-use Rattle.std.specs.Prelude.{ℕ, length, ltb, leb, eqb}
+use Rattle.std.specs.Prelude.{ℕ, length, ltb, leb, eqb, Result, Ok, Err}
 use Rattle.text.specs.Choice.{pick}
 use Rattle.text.specs.Literal.{ascii}
 use Rattle.tokens.specs.Result.{Res, ok, no, bind, perhaps, refuse}
 use Rattle.tokens.specs.Kind.{STRING, INTEGER, OPEN, CLOSE, COMMA, ASSIGN}
-use Rattle.tokens.specs.Cursor.{Tok, is_kind, is_word, take_kind, take_word, take_in, at}
+use Rattle.tokens.specs.Cursor.{Tok, is_kind, is_word, take_kind, take_word, take_in}
 use Rattle.model.specs.Limits.{last_short_address, last_group, last_adapter, longest_name}
 use Rattle.sheet.specs.Kind.{lamp_kind, group_kind, device_kind, input_kind}
 use Rattle.sheet.specs.View.{View}
 use Rattle.sheet.specs.Resolve.{pick_named}
 use Rattle.sheet.specs.declared.resolve.Scope.{Scope}
 use Rattle.sheet.specs.declared.resolve.Scope.TheVariants.{Any, On}
-use Rattle.sheet.specs.declared.resolve.Found.{Found}
-use Rattle.sheet.specs.declared.resolve.Found.TheVariants.{One, Refused}
+use Rattle.sheet.specs.declared.resolve.Unfound.{Unfound}
 use Rattle.model.specs.declared.Ref.{Ref}
 use Rattle.references.specs.declared.refs.NameOrId.{NameOrId}
 use Rattle.references.specs.declared.refs.NameOrId.TheVariants.{Name, Id}
 use Rattle.model.specs.declared.LightTarget.{LightTarget}
-use Rattle.references.specs.declared.refs.IndexAnswer.{IndexAnswer}
-use Rattle.references.specs.declared.refs.NameAnswer.{NameAnswer}
-use Rattle.references.specs.declared.refs.ScopeAnswer.{ScopeAnswer}
-use Rattle.references.specs.declared.refs.RefAnswer.{RefAnswer}
-use Rattle.references.specs.declared.refs.TargetAnswer.{TargetAnswer}
 
 -- "Name not empty? 23. Name at most 48 bytes? 24", at the string itself
 unfoldable pub checked_name : (ℕ → Tok) → ℕ → Res ℕ
@@ -64,9 +58,9 @@ scope_or_primary view Any = view.primary
 scope_or_primary view (On a) = a
 
 -- a row that was found, or the refusal at the name
-unfoldable pub found_at : ℕ → ℕ → Found → Res Ref
-found_at i j (One adapter number) = ok (record { adapter = adapter; number = number }) j
-found_at i j (Refused number detail) = no (record { number = number; token = i; detail = detail })
+unfoldable pub found_at : ℕ → ℕ → Result Ref Unfound → Res Ref
+found_at i j (Ok r) = ok r j
+found_at i j (Err e) = no (record { number = e.number; token = i; detail = e.detail })
 
 -- what a name or an id of a kind refers to, with the last number that the kind may have; j is the next token
 unfoldable pub referred : (ℕ → Tok) → View → ℕ → ℕ → Scope → ℕ → NameOrId → Res Ref
@@ -119,24 +113,3 @@ light_target t view i =
     perhaps (is_word t (ascii "lamp") i) i (λ j. lamp_target t view j)
     (perhaps (is_word t (ascii "group") i) i (λ j. group_target t view j)
     (perhaps (is_word t (ascii "broadcast") i) i (λ j. broadcast_target view i j) (refuse 20 i)))
-
--- the answers of the code
-unfoldable pub to_index : Res ℕ → IndexAnswer
-to_index (ok n i) = IndexAnswer.Got n (at i)
-to_index (no r) = IndexAnswer.No r
-
-unfoldable pub to_name : Res NameOrId → NameAnswer
-to_name (ok n i) = NameAnswer.Got n (at i)
-to_name (no r) = NameAnswer.No r
-
-unfoldable pub to_scope : Res Scope → ScopeAnswer
-to_scope (ok n i) = ScopeAnswer.Got n (at i)
-to_scope (no r) = ScopeAnswer.No r
-
-unfoldable pub to_ref : Res Ref → RefAnswer
-to_ref (ok n i) = RefAnswer.Got n (at i)
-to_ref (no r) = RefAnswer.No r
-
-unfoldable pub to_target : Res LightTarget → TargetAnswer
-to_target (ok n i) = TargetAnswer.Got n (at i)
-to_target (no r) = TargetAnswer.No r

@@ -1,132 +1,56 @@
 // The `next` lines of docs/REPLAY.md: the chain of conditions that follows a sequence of pieces (document 02, §13).
-use crate::{input, layout, out, show};
+use crate::{input, layout, report};
+use std::io::{Read, Result, Write};
 use tergyosul::chain::{CHAIN_WORDS, COUNT, FIRST_PIECE};
 
 // The most pieces of a start.
 const PIECES: usize = 20000;
 
 // The least and the most pieces that a line has room for.
-const LEAST_SIZE: u64 = 15;
+const LEAST_SIZE: usize = 15;
 
 const MOST_SIZE: usize = 8192;
-
-// The greatest number of a piece.
-const MOST: u64 = 255;
 
 // What every word of the answer is before a call.
 const UNTOUCHED: u32 = 165;
 
-// Bytes enough for the lines of a chain.
-const ROOM: usize = 256;
-
-// Reads the line of so many pieces into the start of a buffer; false where they are not there or find no room.
-fn fill(rt: &HostRuntime, pieces: &mut [u8], count: usize) -> bool {
-    if count == 0 {
-        return input::follows(rt, b"\n");
-    }
-    if pieces.len() < count {
-        return false;
-    }
-    let mut i = 0;
-    while i < count {
-        let n = input::number(rt, input::separator(i + 1 == count));
-        if MOST < n {
-            return false;
-        }
-        pieces[i] = n as u8;
-        i += 1;
-    }
-    true
-}
-
-// Whether every word behind the answer is untouched.
-fn kept(answer: &[u32]) -> bool {
-    let mut i = CHAIN_WORDS;
-    while i < answer.len() {
-        if answer[i] != UNTOUCHED {
-            return false;
-        }
-        i += 1;
-    }
-    true
-}
-
-fn buffer(out: &mut [u8], at: usize, answer: &[u32]) -> usize {
-    if kept(answer) {
-        return out::bytes(out, at, b"\nbuffer kept");
-    }
-    out::bytes(out, at, b"\nbuffer changed")
-}
-
-// The pieces, each behind a space.
-fn pieces(out: &mut [u8], at: usize, answer: &[u32], count: usize) -> usize {
-    let mut p = at;
-    let mut i = 0;
-    while i < count {
-        let word = layout::word(answer, std::num::wrapping_add_usize(FIRST_PIECE, i));
-        p = out::signed(out, p, word, 0);
-        i += 1;
-    }
-    p
-}
-
 // The next chain, that none follows, or the refusal.
-fn result(out: &mut [u8], at: usize, answer: &[u32], number: u32) -> usize {
+fn result(out: &mut impl Write, answer: &[u32], number: u32) -> Result<()> {
     if number != 0 {
-        return show::line(out, at, b"", answer, 0, b"", b"\nrefused #0 #1 #2 #3");
+        return report::refused(out, answer);
     }
     let count = layout::word(answer, COUNT) as usize;
     if count == 0 {
-        return out::bytes(out, at, b"\nnone");
+        return out.write_all(b"\nnone");
     }
-    let p = out::bytes(out, at, b"\nchain");
-    pieces(out, p, answer, count)
+    out.write_all(b"\nchain")?;
+    for piece in answer.iter().skip(FIRST_PIECE).take(count) {
+        write!(out, " {piece}")?;
+    }
+    Ok(())
 }
 
-fn lines(out: &mut [u8], id: u64, answer: &[u32], number: u32) -> usize {
-    let p = out::number(out, 0, b"case ", id);
-    let q = buffer(out, p, answer);
-    let r = result(out, q, answer, number);
-    out::bytes(out, r, b"\n")
+fn lines(out: &mut impl Write, id: u64, answer: &[u32], number: u32) -> Result<()> {
+    write!(out, "case {id}")?;
+    report::kept(out, answer, CHAIN_WORDS, UNTOUCHED)?;
+    result(out, answer, number)?;
+    out.write_all(b"\n")
 }
 
-// Makes the call and writes its lines at once.
-fn call(rt: &HostRuntime, id: u64, start: &[u8], answer: &mut [u32]) {
-    let mut out = [0u8; ROOM];
-    let number = tergyosul::chain::tergyosul_next_chain(start, answer);
-    let end = lines(&mut out, id, answer, number);
-    out::print(rt, text::part::part(&out, 0, end));
-}
-
-// Reads the pieces of a start, and makes the call with room for so many.
-fn run(rt: &HostRuntime, id: u64, size: usize, count: usize) -> bool {
-    let mut start = [0u8; PIECES];
+// What follows `next `; none where it is no such line.
+pub fn answer(input: &mut impl Read, out: &mut impl Write) -> Option<()> {
+    let id = input::number(input, b' ')?;
+    let size: usize = input::number(input, b' ')?;
+    let count: usize = input::number(input, b'\n')?;
+    let mut pieces = [0u8; PIECES];
     let mut answer = [UNTOUCHED; FIRST_PIECE + MOST_SIZE];
-    if MOST_SIZE < size {
-        return false;
-    }
-    if !fill(rt, &mut start, count) {
-        return false;
-    }
-    call(
-        rt,
-        id,
-        text::part::part(&start, 0, count),
-        &mut answer[..FIRST_PIECE + size],
-    );
-    true
-}
-
-// What follows `next `; false where it is no such line.
-pub fn rest(rt: &HostRuntime) -> bool {
-    let id = input::number(rt, b' ');
-    let size = input::number(rt, b' ');
-    let count = input::number(rt, b'\n');
-    if id == input::NONE {
-        return false;
-    }
     if size < LEAST_SIZE {
-        return false;
+        return None;
     }
-    run(rt, id, size as usize, count as usize)
+    let start = pieces.get_mut(..count)?;
+    let lent = answer.get_mut(..size.checked_add(FIRST_PIECE)?)?;
+    input::line(input, start)?;
+    let number = tergyosul::chain::tergyosul_next_chain(start, lent);
+    let _ = lines(out, id, lent, number);
+    Some(())
 }

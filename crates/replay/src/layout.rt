@@ -25,11 +25,11 @@ pub const CONDITIONS_FROM: usize = 11;
 // What these words say of the first text.
 pub const FIRST_TEXT: u32 = 1;
 
-// Where the triggers begin.
-pub const TRIGGERS: usize = 12;
+// The row of the first trigger.
+pub const TRIGGERS: usize = 1;
 
-// Where the conditions begin.
-pub const CONDITIONS: usize = 60;
+// The row of the first condition.
+pub const CONDITIONS: usize = 5;
 
 // The type of an instance group for which none is given.
 pub const NO_TYPE: u32 = 4294967295;
@@ -37,19 +37,12 @@ pub const NO_TYPE: u32 = 4294967295;
 // The set of all seven days: the sum of 1 for Monday, 2 for Tuesday, and so on to 64 for Sunday.
 pub const EVERY_DAY: u32 = 127;
 
-// How many values a word has.
-pub const VALUES: u64 = 4294967296;
-
-// The least high word of a negative number in two's complement.
-pub const NEGATIVE: u32 = 2147483648;
-
-// The high word of a negative number of one word.
-pub const ALL_ONES: u32 = 4294967295;
-
 // The word with an index; 0 where there is none.
 pub fn word(words: &[u32], i: usize) -> u32 {
-    if i < words.len() {
-        return words[i];
-    }
-    0
+    words.get(i).copied().unwrap_or(0)
+}
+
+// The row of an answer with an index; no words where there is none.
+pub fn row(answer: &[u32], i: usize) -> &[u32] {
+    answer.chunks_exact(ROW).nth(i).unwrap_or(&[])
 }

@@ -4,137 +4,124 @@
 //   *  the days of a set          @  `on` and the days of a set, or nothing for all seven
 // A capital letter is a form: a code from 1 on, by which one of its lines is chosen; the fields of that line count the words from the code. All else is written as it stands.
 // Each field is written behind a space, unless it begins with a line end.
-use crate::{layout, list, out};
+use crate::forms::FORMS;
+use crate::layout;
+use std::io::{Result, Write};
 
-// The most fields of a line.
-const FIELDS: usize = 7;
-
-// The index of the word that a field begins at.
-fn index(k: usize, field: &[u8]) -> usize {
-    let digit = list::byte(field, 1);
-    if digit < b'0' {
-        return k;
-    }
-    std::num::wrapping_add_usize(k, (digit - b'0') as usize)
+// The part of bytes that a separator parts which has an index; no bytes where there is none.
+fn item(list: &[u8], separator: u8, k: usize) -> &[u8] {
+    list.split(|b| *b == separator).nth(k).unwrap_or(&[])
 }
 
-// The forms before that of a field; all of them where it is no form.
-fn before<'a, 'b>(forms: &'a [u8], field: &'b [u8]) -> &'a [u8] {
-    let letter = list::byte(field, 0);
-    if letter < b'A' {
-        return forms;
-    }
-    if b'Z' < letter {
-        return forms;
-    }
-    list::item(forms, letter, 0)
+// The words that a field begins at.
+fn words_of<'a>(words: &'a [u32], field: &[u8]) -> &'a [u32] {
+    let digit = field.get(1).copied().unwrap_or(b'0');
+    let k = usize::from(digit.saturating_sub(b'0'));
+    words.get(k..).unwrap_or(&[])
 }
 
-// The line of a field's form for a code.
-fn chosen<'a, 'b>(forms: &'a [u8], field: &'b [u8], code: u32) -> &'a [u8] {
-    let lines = list::item(forms, list::byte(field, 0), 1);
-    list::item(lines, b'\n', code as usize)
+// A word behind a space, unless it begins with a line end; nothing for no bytes.
+fn word(out: &mut impl Write, w: &[u8]) -> Result<()> {
+    if !w.is_empty() && !w.starts_with(b"\n") {
+        out.write_all(b" ")?;
+    }
+    out.write_all(w)
 }
 
-// The high word of a number, by the kind of its field, its first word and the next.
-fn high(kind: u8, low: u32, next: u32) -> u32 {
-    if kind == b'#' {
-        return 0;
+// A space, `x` and bytes in hex.
+pub fn hex(out: &mut impl Write, w: &[u8]) -> Result<()> {
+    out.write_all(b" x")?;
+    for b in w {
+        write!(out, "{b:02x}")?;
     }
-    if kind == b'%' {
-        return next;
-    }
-    if low < layout::NEGATIVE {
-        return 0;
-    }
-    layout::ALL_ONES
+    Ok(())
 }
 
-// A number, or none.
-fn perhaps(out: &mut [u8], at: usize, n: u32) -> usize {
-    if n == layout::NO_TYPE {
-        return out::word(out, at, b"-");
+// A space and the days of a set, from its lowest bit on: 1 for Monday to 7 for Sunday.
+fn days(out: &mut impl Write, sum: u32) -> Result<()> {
+    out.write_all(b" ")?;
+    for day in 1..=7u32 {
+        if sum >> (day - 1) & 1 == 1 {
+            write!(out, "{day}")?;
+        }
     }
-    out::signed(out, at, n, 0)
+    Ok(())
 }
 
 // `on` and the days of a set; nothing for all seven.
-fn on_days(out: &mut [u8], at: usize, sum: u32) -> usize {
+fn on_days(out: &mut impl Write, sum: u32) -> Result<()> {
     if sum == layout::EVERY_DAY {
-        return at;
+        return Ok(());
     }
-    let p = out::word(out, at, b"on");
-    out::days(out, p, sum)
+    out.write_all(b" on")?;
+    days(out, sum)
 }
 
-// A range of the text's bytes.
-fn range(out: &mut [u8], at: usize, text: &[u8], start: u32, length: u32) -> usize {
-    let first = start as usize;
-    let end = first + length as usize;
-    out::hex(out, at, text::part::part(text, first, end))
+// A number, or none.
+fn perhaps(out: &mut impl Write, n: u32) -> Result<()> {
+    if n == layout::NO_TYPE {
+        return out.write_all(b" -");
+    }
+    write!(out, " {n}")
 }
 
-// A field that is no form; its word has the index i.
-fn plain(out: &mut [u8], at: usize, text: &[u8], words: &[u32], i: usize, field: &[u8]) -> usize {
-    let low = layout::word(words, i);
-    let next = layout::word(words, std::num::wrapping_add_usize(i, 1));
-    let kind = list::byte(field, 0);
-    match kind {
-        b'#' | b'+' | b'%' => out::signed(out, at, low, high(kind, low, next)),
-        b'?' => perhaps(out, at, low),
-        b'*' => out::days(out, at, low),
-        b'@' => on_days(out, at, low),
-        b'$' => range(out, at, text, low, next),
-        b'|' => out::word(out, at, list::item(field, b'|', low as usize + 1)),
-        _ => out::word(out, at, field),
+// A field that is no form, with the words that it begins at.
+fn plain(out: &mut impl Write, text: &[u8], words: &[u32], field: &[u8]) -> Result<()> {
+    let low = layout::word(words, 0);
+    let next = layout::word(words, 1);
+    match field.first() {
+        Some(b'#') => write!(out, " {low}"),
+        Some(b'+') => {
+            let n = low.cast_signed();
+            write!(out, " {n}")
+        }
+        Some(b'%') => {
+            let n = (u64::from(next) << 32 | u64::from(low)).cast_signed();
+            write!(out, " {n}")
+        }
+        Some(b'?') => perhaps(out, low),
+        Some(b'*') => days(out, low),
+        Some(b'@') => on_days(out, low),
+        Some(b'$') => {
+            let start = low as usize;
+            hex(out, text::part::part(text, start, start + next as usize))
+        }
+        Some(b'|') => word(out, item(field, b'|', low as usize + 1)),
+        _ => word(out, field),
     }
 }
 
-// A line whose words begin at index k. It ends, since a form is given only those before it.
-pub fn line(
-    out: &mut [u8],
-    at: usize,
+// The line of a field's form for a code, and the forms before it, which it may use; none where the field is no form.
+fn form<'a>(forms: &'a [u8], field: &[u8], code: u32) -> Option<(&'a [u8], &'a [u8])> {
+    let letter = *field.first()?;
+    if !letter.is_ascii_uppercase() {
+        return None;
+    }
+    let lines = item(forms, letter, 1);
+    Some((item(lines, b'\n', code as usize), item(forms, letter, 0)))
+}
+
+// The fields of a line, with the forms that they may use.
+fn fields(
+    out: &mut impl Write,
     text: &[u8],
     words: &[u32],
-    k: usize,
     forms: &[u8],
-    fields: &[u8],
-) -> usize {
-    let mut p = at;
-    let mut i: usize = 0;
-    while i < FIELDS {
-        let field = list::item(fields, b' ', i);
-        let j = index(k, field);
-        let rest = before(forms, field);
-        if rest.len() < forms.len() {
-            let inner = chosen(forms, field, layout::word(words, j));
-            p = line(out, p, text, words, j, rest, inner);
-        } else {
-            p = plain(out, p, text, words, j, field);
+    line: &[u8],
+) -> Result<()> {
+    for field in line.split(|b| *b == b' ') {
+        let own = words_of(words, field);
+        match form(forms, field, layout::word(own, 0)) {
+            Some((inner, before)) if before.len() < forms.len() => {
+                fields(out, text, own, before, inner)?
+            }
+            _ => plain(out, text, own, field)?,
         }
-        i += 1;
     }
-    p
+    Ok(())
 }
 
-// The same line for each of so many rows, the first of which begins at index k.
-pub fn rows(
-    out: &mut [u8],
-    at: usize,
-    text: &[u8],
-    answer: &[u32],
-    k: usize,
-    count: u32,
-    forms: &[u8],
-    fields: &[u8],
-) -> usize {
-    let mut p = at;
-    let mut row = k;
-    let mut left = count;
-    while left > 0 {
-        p = line(out, p, text, answer, row, forms, fields);
-        row = std::num::wrapping_add_usize(row, layout::ROW);
-        left -= 1;
-    }
-    p
+// A line of the words; ranges are of the text.
+pub fn line(out: &mut impl Write, text: &[u8], words: &[u32], parts: &[u8]) -> Result<()> {
+    fields(out, text, words, &FORMS, parts)
 }

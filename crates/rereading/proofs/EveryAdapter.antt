@@ -6,6 +6,7 @@ use mathlib.Core.Bool.{Bool, true}
 use mathlib.Core.List.{List, [], ◌∷◌, ◌++◌, map, head-eq_of_cons-eq, tail-eq_of_cons-eq, cons-ne-nil}
 use lib.Dec.{leb, eqb}
 use borrow.Author.Tests.{leb-true, eqb-false, eq-eqb}
+use Rattle.std.specs.Prelude.{Option, Some}
 use Rattle.text.specs.Find.{index_of, index_after}
 use Rattle.text.specs.Ascii.{is_digit}
 use Rattle.text.specs.Literal.{ascii}
@@ -47,11 +48,11 @@ pub every_adapter : List ℕ
 every_adapter = ascii "primary,0" ++ listing 256
 
 -- what they say
-listed : ℕ → List Line
+listed : ℕ → List (Option Line)
 listed zero = []
-listed (suc n) = Adapter n ∷ listed n
+listed (suc n) = Some (Adapter n) ∷ listed n
 
-lines-say : map line_of (lines every_adapter) ≡ Primary 0 ∷ listed 256
+lines-say : map line_of (lines every_adapter) ≡ Some (Primary 0) ∷ listed 256
 unfolding every_adapter listing listed decimal decimal_from split index_of index_after same_bytes is_digit without_return field rest has_comma digits_on numeral primary_of adapter_of line_by bare_line line_of
 lines-say = refl
 
@@ -75,12 +76,12 @@ no-owner a n [] e = refl
 no-owner a zero (l ∷ ls) e = absurd (cons-ne-nil _ _ e)
 no-owner a (suc n) (l ∷ ls) e = rw (head-eq_of_cons-eq e) (no-owner a n ls (tail-eq_of_cons-eq e))
 
-first-lists : (a n : ℕ) (ls : List (List ℕ)) → map line_of ls ≡ Primary 0 ∷ listed n → a < n → lists a ls ≡ true
+first-lists : (a n : ℕ) (ls : List (List ℕ)) → map line_of ls ≡ Some (Primary 0) ∷ listed n → a < n → lists a ls ≡ true
 unfolding lists is_listing
 first-lists a n [] e h = absurd (cons-ne-nil _ _ (sym e))
 first-lists a n (l ∷ ls) e h = rw (head-eq_of_cons-eq e) (lists-below a n ls (tail-eq_of_cons-eq e) h)
 
-first-owner : (a n : ℕ) (ls : List (List ℕ)) → map line_of ls ≡ Primary 0 ∷ listed n → owner_of a ls ≡ 0
+first-owner : (a n : ℕ) (ls : List (List ℕ)) → map line_of ls ≡ Some (Primary 0) ∷ listed n → owner_of a ls ≡ 0
 unfolding owner_of owner_by
 first-owner a n [] e = refl
 first-owner a n (l ∷ ls) e = rw (head-eq_of_cons-eq e) (no-owner a n ls (tail-eq_of_cons-eq e))

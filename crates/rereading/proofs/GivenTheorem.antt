@@ -1,5 +1,6 @@
 -- The test of 55 says yes exactly of the entries whose names stand inside their text and that some text gives (specs/Given.antt). Some text: what is written for the
 -- entry alone, with a sheet on which every adapter is listed.
+use Rattle.std.specs.Prelude.{Option, None, Some}
 use Prim.Native.Nat.{ℕ}
 use native.Mathlib.Omega.{arith}
 use mathlib.Core.Path.{◌≡◌, refl, sym}
@@ -9,7 +10,6 @@ use Rattle.tokens.specs.Lexing.{least_words}
 use Rattle.sheet.specs.View.{any_form}
 use Rattle.topics.specs.Topics.{has, different, Allowed, few}
 use Rattle.topics.specs.Ranges.{name_in, topic_by}
-use Rattle.topics.specs.declared.ranges.Topic.{Topic}
 use Rattle.model.specs.declared.Condition.{Condition}
 use Rattle.model.specs.declared.Name.{Name}
 use Rattle.model.specs.declared.Trigger.{Trigger}
@@ -58,10 +58,10 @@ first-shown f [] e = absurd (cons-ne-nil _ _ (sym e))
 first-shown f (x ∷ xs) e = (x, Among.here, sym (head-eq_of_cons-eq e))
 
 -- one topic at most is never too many
-one-allowed : (written : Name → List ℕ) (topic : Topic) → Allowed [] (topic_by written topic ++ [])
+one-allowed : (written : Name → List ℕ) (topic : Option Name) → Allowed [] (topic_by written topic ++ [])
 unfolding topic_by has different
-one-allowed written Topic.Absent = few (omega arith)
-one-allowed written (Topic.Is name) = few (omega arith)
+one-allowed written None = few (omega arith)
+one-allowed written (Some name) = few (omega arith)
 
 -- ---- what is written for it
 

@@ -1,4 +1,5 @@
 -- What is written for possible entries are pieces that are one token each. It is said as a test of the pieces, computed where they are fixed.
+use Rattle.std.specs.Prelude.{Result, Option, Some, None}
 use Prim.Native.Nat.{ℕ, zero, suc, ◌+◌, ◌≤◌, ◌<◌}
 use native.Mathlib.Omega.{arith}
 use native.Mathlib.Nat.{zero-add}
@@ -16,7 +17,7 @@ use Rattle.text.specs.Literal.{ascii}
 use Rattle.text.specs.Place.{Judged}
 use Rattle.text.specs.Rfc3629.{Utf8Octets}
 use Rattle.text.specs.Split.{split}
-use Rattle.text.specs.declared.place.Checked.{Checked}
+use Rattle.text.specs.declared.place.IllFormed.{IllFormed}
 use Rattle.text.proofs.FindLaws.{first-within, first-here, first-same}
 use Rattle.text.proofs.PlaceRules.{judged}
 use Rattle.text.proofs.Tests.{picked, both}
@@ -31,12 +32,10 @@ use Rattle.model.specs.Ranges.{Each}
 use Rattle.model.specs.declared.Comparison.{Comparison}
 use Rattle.model.specs.declared.Condition.{Condition}
 use Rattle.model.specs.declared.Days.{Days}
-use Rattle.model.specs.declared.Delta.{Delta}
 use Rattle.model.specs.declared.Event.{Event}
 use Rattle.model.specs.declared.InputRef.{InputRef}
 use Rattle.model.specs.declared.LightTarget.{LightTarget}
 use Rattle.model.specs.declared.Name.{Name}
-use Rattle.model.specs.declared.Number.{Number}
 use Rattle.model.specs.declared.Online.{Online}
 use Rattle.model.specs.declared.Operand.{Operand}
 use Rattle.model.specs.declared.Reading.{Reading}
@@ -81,7 +80,7 @@ good-word (c ∷ cs) h =
 
 -- ---- strings
 
-well_formed : {s : List ℕ} {x : Checked} → Judged s x → is_well_formed x ≡ true → (cs : List ℕ) × Utf8Octets s cs
+well_formed : {s : List ℕ} {x : Result Unit IllFormed} → Judged s x → is_well_formed x ≡ true → (cs : List ℕ) × Utf8Octets s cs
 unfolding is_well_formed
 well_formed (Judged.well_formed {cs} h) e = (cs, h)
 well_formed (Judged.ill_formed h b p n) e = absurd (false≢true e)
@@ -241,11 +240,11 @@ unfolding literal_pieces is_signed_up_to
 literal_good (pos n) h = rw h
 literal_good (negsuc n) h = rw (after most_run most_run n h (omega arith))
 
-delta-good : (d : Delta) → possible_delta d ≡ true → are_good (delta_pieces d) ≡ true
+delta-good : (d : Option ℤ) → possible_delta d ≡ true → are_good (delta_pieces d) ≡ true
 unfolding delta_pieces possible_delta is_signed_up_to
-delta-good Delta.Absent h = refl
-delta-good (Delta.Is (pos n)) h = rw h
-delta-good (Delta.Is (negsuc n)) h = rw (after most_run most_run n h (omega arith))
+delta-good None h = refl
+delta-good (Some (pos n)) h = rw h
+delta-good (Some (negsuc n)) h = rw (after most_run most_run n h (omega arith))
 
 comparison-good : (c : Comparison) → is_sign (comparison_sign c) ≡ true
 comparison-good Comparison.Eq = refl
@@ -291,10 +290,10 @@ module _ (primary : ℕ) where
   unfolding adapter_pieces
   adapter-good a h = picked (λ (ps : List Piece). are_good ps ≡ true) (eqb a primary) (λ e. refl) (λ e. rw h)
 
-  type-good : (n : Number) → possible_type n ≡ true → are_good (type_pieces n) ≡ true
+  type-good : (n : Option ℕ) → possible_type n ≡ true → are_good (type_pieces n) ≡ true
   unfolding type_pieces possible_type last_instance_type
-  type-good Number.Absent h = refl
-  type-good (Number.Is n) h = rw (below last_instance_type most_run n h (omega arith))
+  type-good None h = refl
+  type-good (Some n) h = rw (below last_instance_type most_run n h (omega arith))
 
   selector-good : (s : Selector) → possible_selector s ≡ true → are_good (selector_pieces primary s) ≡ true
   unfolding selector_pieces instance_pieces possible_selector last_instance last_instance_group

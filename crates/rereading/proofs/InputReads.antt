@@ -1,4 +1,5 @@
 -- The arguments of `input(` as they are written, all named and none twice, are read as what they select.
+use Rattle.std.specs.Prelude.{Option, Some, None}
 use Prim.Native.Nat.{ℕ, ◌≤◌}
 use mathlib.Core.Path.{◌≡◌, refl}
 use mathlib.Core.Bool.{Bool, true, false, not}
@@ -13,7 +14,6 @@ use Rattle.tokens.specs.Grammar.{up_to}
 use Rattle.model.specs.Limits.{last_adapter, last_short_address, last_instance, last_instance_group}
 use Rattle.model.specs.declared.Ref.{Ref}
 use Rattle.model.specs.declared.InputRef.{InputRef}
-use Rattle.model.specs.declared.Number.{Number}
 use Rattle.model.specs.declared.Selector.{Selector}
 use Rattle.sheet.specs.View.{View}
 use Rattle.sheet.specs.declared.resolve.Scope.{Scope}
@@ -53,14 +53,14 @@ abbrev scope_items : Scope → List Item
 scope_items Scope.Any = []
 scope_items (Scope.On a) = Item.Adapter a ∷ []
 
-abbrev type_items : Number → List Item
-type_items Number.Absent = []
-type_items (Number.Is n) = Item.Type n ∷ []
+abbrev type_items : Option ℕ → List Item
+type_items None = []
+type_items (Some n) = Item.Type n ∷ []
 
 abbrev instance_items : NameOrId → ℕ → Scope → List Item
 instance_items d n scope = Item.Device d ∷ Item.Instance n ∷ scope_items scope
 
-abbrev group_items : ℕ → ℕ → Number → Scope → List Item
+abbrev group_items : ℕ → ℕ → Option ℕ → Scope → List Item
 group_items g i kind scope = Item.Group g i ∷ type_items kind ++ scope_items scope
 
 instance-differ : (d : NameOrId) (n : ℕ) (scope : Scope) → Different (instance_items d n scope)
@@ -68,12 +68,12 @@ unfolding are_different is_without slot
 instance-differ d n Scope.Any = differ _ refl
 instance-differ d n (Scope.On a) = differ _ refl
 
-group-differ : (g i : ℕ) (kind : Number) (scope : Scope) → Different (group_items g i kind scope)
+group-differ : (g i : ℕ) (kind : Option ℕ) (scope : Scope) → Different (group_items g i kind scope)
 unfolding are_different is_without slot
-group-differ g i Number.Absent Scope.Any = differ _ refl
-group-differ g i Number.Absent (Scope.On a) = differ _ refl
-group-differ g i (Number.Is n) Scope.Any = differ _ refl
-group-differ g i (Number.Is n) (Scope.On a) = differ _ refl
+group-differ g i None Scope.Any = differ _ refl
+group-differ g i None (Scope.On a) = differ _ refl
+group-differ g i (Some n) Scope.Any = differ _ refl
+group-differ g i (Some n) (Scope.On a) = differ _ refl
 
 module _ {t : ℕ → Tok} {view : View} where
   instance-selects : {n m i a : ℕ} {scope : Scope} → OnAdapter view scope a → n ≤ last_short_address →
@@ -85,18 +85,18 @@ module _ {t : ℕ → Tok} {view : View} where
       instance (without _ _ refl) (last refl (without _ _ refl)) (later (last refl (without _ _ refl))) (somewhere (later (later (last refl none))))
       (id-refers given few)
 
-  group-selects : (g i : ℕ) (kind : Number) {a : ℕ} {scope : Scope} → OnAdapter view scope a →
+  group-selects : (g i : ℕ) (kind : Option ℕ) {a : ℕ} {scope : Scope} → OnAdapter view scope a →
       Selects t view (group_items g i kind scope) (Selector.Group a g kind)
   unfolding is_without slot
-  group-selects g i Number.Absent primary =
+  group-selects g i None primary =
       instances (last refl none) (without _ _ refl) (without _ _ refl) (nowhere (without _ _ refl)) primary (untyped (without _ _ refl))
-  group-selects g i Number.Absent given =
+  group-selects g i None given =
       instances (last refl (without _ _ refl)) (without _ _ refl) (without _ _ refl) (somewhere (later (last refl none))) given
       (untyped (without _ _ refl))
-  group-selects g i (Number.Is n) primary =
+  group-selects g i (Some n) primary =
       instances (last refl (without _ _ refl)) (without _ _ refl) (without _ _ refl) (nowhere (without _ _ refl)) primary
       (typed (later (last refl none)))
-  group-selects g i (Number.Is n) given =
+  group-selects g i (Some n) given =
       instances (last refl (without _ _ refl)) (without _ _ refl) (without _ _ refl) (somewhere (later (later (last refl none)))) given
       (typed (later (last refl (without _ _ refl))))
 
@@ -109,11 +109,11 @@ module _ {t : ℕ → Tok} {view : View} where
   last-arg x (clause c w e a) = more x c (one (Arg.adapter w e a))
 
   -- a group, and its type if it has one
-  group-args : {m i n j k l : ℕ} {x : Item} {scope : Scope} (kind : Number) → possible_type kind ≡ true → Arg t view m i x n j →
+  group-args : {m i n j k l : ℕ} {x : Item} {scope : Scope} (kind : Option ℕ) → possible_type kind ≡ true → Arg t view m i x n j →
       Stands t j (type_pieces kind) k → Clause t view k scope l → ArgList t view m i (x ∷ type_items kind ++ scope_items scope) l
   unfolding possible_type type_pieces token_of
-  group-args Number.Absent p x Stands.none c = last-arg x c
-  group-args (Number.Is n) p x s c =
+  group-args None p x Stands.none c = last-arg x c
+  group-args (Some n) p x s c =
       let type = TypeOf.number (up_to (argument-number (rest s)) (leb-true _ _ p)) in
       more x (token-read (head s)) (last-arg (Arg.type (argument-word (rest s)) (argument-assign (rest s)) type) c)
 

@@ -1,5 +1,6 @@
 -- An entry whose numbers are in range, and whose names a text can give, is possible: the test of writing/specs/Possible.antt from what is said of the
 -- values alone.
+use Rattle.std.specs.Prelude.{Option, Some, None}
 use Prim.Native.Nat.{ℕ}
 use mathlib.Core.Path.{◌≡◌, refl}
 use mathlib.Core.Bool.{Bool, true, false}
@@ -11,11 +12,9 @@ use Rattle.model.specs.Limits.{last_short_address}
 use Rattle.model.specs.Ranges.{Free, RefInRange, InputInRange, TypeInRange, SelectorInRange, TargetInRange, EventInRange, DaysInRange, TriggerInRange, ReadingInRange, ValueInRange, OperandInRange, ConditionInRange}
 use Rattle.model.specs.declared.Condition.{Condition}
 use Rattle.model.specs.declared.Days.{Days}
-use Rattle.model.specs.declared.Delta.{Delta}
 use Rattle.model.specs.declared.Event.{Event}
 use Rattle.model.specs.declared.InputRef.{InputRef}
 use Rattle.model.specs.declared.LightTarget.{LightTarget}
-use Rattle.model.specs.declared.Number.{Number}
 use Rattle.model.specs.declared.Operand.{Operand}
 use Rattle.model.specs.declared.Reading.{Reading}
 use Rattle.model.specs.declared.Ref.{Ref}
@@ -100,10 +99,10 @@ input-possible : (r : InputRef) → InputInRange r → possible_input r ≡ true
 unfolding possible_input
 input-possible r h = holds (ref_possible last_short_address r.device h.0) (le-leb _ _ h.1)
 
-type-possible : (n : Number) → TypeInRange n → possible_type n ≡ true
+type-possible : (n : Option ℕ) → TypeInRange n → possible_type n ≡ true
 unfolding possible_type TypeInRange
-type-possible Number.Absent h = refl
-type-possible (Number.Is n) h = le-leb _ _ h
+type-possible None h = refl
+type-possible (Some n) h = le-leb _ _ h
 
 selector-possible : (s : Selector) → SelectorInRange s → possible_selector s ≡ true
 unfolding possible_selector SelectorInRange
@@ -159,10 +158,10 @@ module _ (text : List ℕ) where
   reading-possible (Reading.Event p) h n = refl
   reading-possible (Reading.Var name) h n = n
 
-  delta-possible : (delta : Delta) → DeltaNumbers delta → possible_delta delta ≡ true
+  delta-possible : (delta : Option ℤ) → DeltaNumbers delta → possible_delta delta ≡ true
   unfolding possible_delta DeltaNumbers
-  delta-possible Delta.Absent k = refl
-  delta-possible (Delta.Is z) k = signed-possible _ _ z k
+  delta-possible None k = refl
+  delta-possible (Some z) k = signed-possible _ _ z k
 
   value-possible : (v : Value) → ValueInRange v → ValueNumbers v → ValueNames text v → possible_value text v ≡ true
   unfolding possible_value ValueInRange ValueNumbers ValueNames

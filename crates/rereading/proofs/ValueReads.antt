@@ -1,4 +1,5 @@
 -- Readings and values as they are written are read as themselves, names by bytes.
+use Rattle.std.specs.Prelude.{Option, Some, None}
 use Prim.Native.Nat.{ℕ, ◌+◌}
 use mathlib.Core.Path.{◌≡◌, refl, subst}
 use mathlib.Core.Bool.{true}
@@ -9,7 +10,6 @@ use Rattle.tokens.specs.Cursor.{Tok}
 use Rattle.tokens.specs.Kind.{STRING, INTEGER, MINUS}
 use Rattle.topics.specs.Ranges.{name_in}
 use Rattle.sheet.specs.View.{View}
-use Rattle.model.specs.declared.Delta.{Delta}
 use Rattle.model.specs.declared.EventReading.{EventReading}
 use Rattle.model.specs.declared.GroupReading.{GroupReading}
 use Rattle.model.specs.declared.InputReading.{InputReading}
@@ -123,11 +123,11 @@ module _ (t : ℕ → Tok) (view : View) (range : ℕ → Name) (written : List 
       let (k, front, behind) = parted (reading_pieces view.primary (name_in text) r) _ s in
       delta-read delta (reading-read r possible h front) behind
     where
-      delta-read : (d : Delta) {i k j : ℕ} → ReadingRead i r k → Stands t k (delta_pieces d) j → ValueRead i (Value.Reads r d) j
-      delta-read Delta.Absent x Stands.none = read_as _ (reading x.reads) (reads-shown written text _ r Delta.Absent x.same)
-      delta-read (Delta.Is (pos n)) x s =
+      delta-read : (d : Option ℤ) {i k j : ℕ} → ReadingRead i r k → Stands t k (delta_pieces d) j → ValueRead i (Value.Reads r d) j
+      delta-read None x Stands.none = read_as _ (reading x.reads) (reads-shown written text _ r None x.same)
+      delta-read (Some (pos n)) x s =
           read_as _ (reading_with x.reads (plus (token-read (head s)) (token-read (rest s)))) (reads-shown written text _ r _ x.same)
-      delta-read (Delta.Is (negsuc n)) x s = read_as _ (reading_with x.reads (minus-read n s)) (reads-shown written text _ r _ x.same)
+      delta-read (Some (negsuc n)) x s = read_as _ (reading_with x.reads (minus-read n s)) (reads-shown written text _ r _ x.same)
 
   pub operand_read : (x : Operand) {i j : ℕ} → possible_operand text x ≡ true → reached_operand view x ≡ true →
       Stands t i (operand_pieces view.primary (name_in text) x) j → OperandRead i x j

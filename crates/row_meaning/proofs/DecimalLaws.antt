@@ -1,12 +1,13 @@
 -- The digits of an adapter, read as the sheet reads a number, are the adapter; they have no comma and no LF.
 use Prim.Native.Nat.{ℕ, ◌≤◌, ◌<◌}
 use native.Mathlib.Omega.{arith}
-use mathlib.Core.Path.{◌≡◌}
-use mathlib.Core.Bool.{Bool}
+use mathlib.Core.Path.{◌≡◌, ap}
+use mathlib.Core.Bool.{Bool, false}
 use mathlib.Core.List.{List}
 use lib.ListN.{length}
-use lib.Dec.{leb, eqb, eqb→eq}
+use lib.Dec.{T, leb, eqb, eqb→eq}
 use borrow.Author.Tests.{leb-true}
+use Rattle.std.specs.Prelude.{Option, Some, None}
 use Rattle.text.specs.Ascii.{is_digit}
 use Rattle.text.proofs.Computed.{below}
 use Rattle.text.proofs.Tests.{both}
@@ -17,12 +18,20 @@ use Rattle.writing.specs.Pieces.{decimal, decimal_from}
 use Rattle.rereading.proofs.SpelledDigits.{decimal-writes}
 
 -- a test over all adapters
-abbrev is_back : ℕ → Bool
-is_back n = eqb (numeral (decimal n)) n
+abbrev is_number : Option ℕ → ℕ → Bool
+is_number None n = false
+is_number (Some m) n = eqb m n
 
-pub numeral-decimal : (n : ℕ) → n ≤ last_adapter → numeral (decimal n) ≡ n
+abbrev is_back : ℕ → Bool
+is_back n = is_number (numeral (decimal n)) n
+
+number_is : (x : Option ℕ) (n : ℕ) → T (is_number x n) → x ≡ Some n
+number_is None n h = absurd h
+number_is (Some m) n h = ap (λ (k : ℕ). Some k) (eqb→eq m n h)
+
+pub numeral-decimal : (n : ℕ) → n ≤ last_adapter → numeral (decimal n) ≡ Some n
 unfolding decimal decimal_from numeral digits_on is_digit
-numeral-decimal n h = eqb→eq _ _ (below is_back 256 tt n (omega arith))
+numeral-decimal n h = number_is _ n (below is_back 256 tt n (omega arith))
 
 -- no digit is a byte below them
 digits-without : {c : ℕ} {ds : List ℕ} → c < 0x30 → All is_digit ds → Without c ds

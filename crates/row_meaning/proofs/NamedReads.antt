@@ -3,6 +3,7 @@ use Prim.Native.Nat.{ℕ, ◌+◌}
 use mathlib.Core.Path.{◌≡◌, refl}
 use mathlib.Core.Bool.{Bool, true, false}
 use mathlib.Core.List.{List, [], ◌∷◌}
+use Rattle.std.specs.Prelude.{Result, Ok, Err}
 use Rattle.text.specs.Choice.{pick}
 use Rattle.tokens.specs.Result.{Res, ok, no, bind, refuse}
 use Rattle.tokens.specs.Kind.{CLOSE, COMMA}
@@ -11,10 +12,9 @@ use Rattle.tokens.specs.Grammar.{up_to}
 use Rattle.tokens.proofs.Okay.{token-kind, not-kind, kind-yes, kind-no, kind-complete, word-complete, up_to-complete}
 use Rattle.model.specs.declared.Ref.{Ref}
 use Rattle.sheet.specs.Line.{is_name}
-use Rattle.sheet.specs.Resolve.{pick_named}
+use Rattle.sheet.specs.Resolve.{not_found, pick_named}
 use Rattle.sheet.specs.View.{View}
-use Rattle.sheet.specs.declared.resolve.Found.{Found}
-use Rattle.sheet.specs.declared.resolve.Found.TheVariants.{One, Refused}
+use Rattle.sheet.specs.declared.resolve.Unfound.{Unfound}
 use Rattle.sheet.specs.declared.resolve.Scope.{Scope}
 use Rattle.references.specs.Grammar.{Quoted, quoted, name}
 use Rattle.references.specs.Refs.{adapter_number, adapter_assign, adapter_clause, found_at, referred, close_r, open_r, reference}
@@ -29,27 +29,27 @@ use Rattle.row_meaning.proofs.OneRow.{InByte, name-long}
 -- ---- answers by what is found
 
 -- the value that f makes of the reference, and j is the next token; or the refusal with its detail, at some token
-pub data ByFound {A : Type 0} (f : Ref → A) (j : ℕ) : Found → Res A → Type 0 where
-  one : {adapter number : ℕ} → ByFound f j (One adapter number) (ok (f (record { adapter = adapter; number = number })) j)
-  none : {number at detail : ℕ} → ByFound f j (Refused number detail) (no (record { number = number; token = at; detail = detail }))
+pub data ByFound {A : Type 0} (f : Ref → A) (j : ℕ) : Result Ref Unfound → Res A → Type 0 where
+  one : {r : Ref} → ByFound f j (Ok r) (ok (f r) j)
+  none : {at : ℕ} {u : Unfound} → ByFound f j (Err u) (no (record { number = u.number; token = at; detail = u.detail }))
 
 -- a step that takes whichever value there is
-pub found-then : {A B : Type 0} {f : Ref → A} {g : Ref → B} {j k : ℕ} {found : Found} {m : Res A} (h : A → ℕ → Res B) → ByFound f j found m →
+pub found-then : {A B : Type 0} {f : Ref → A} {g : Ref → B} {j k : ℕ} {found : Result Ref Unfound} {m : Res A} (h : A → ℕ → Res B) → ByFound f j found m →
     ((r : Ref) → h (f r) j ≡ ok (g r) k) → ByFound g k found (bind m h)
 found-then h one e = rw (e _) one
 found-then h none e = none
 
 -- a scope that is not seen is refused with 25 before any name is looked up
-found-seen : {A : Type 0} {f : Ref → A} {found : Found} {scope : Scope} {j k : ℕ} (b : Bool) (i : ℕ) (g : Scope → ℕ → Res A) →
-    ByFound f k found (g scope j) → ByFound f k (pick b found (Refused 25 0)) (bind (pick b (ok scope j) (refuse 25 i)) g)
+found-seen : {A : Type 0} {f : Ref → A} {found : Result Ref Unfound} {scope : Scope} {j k : ℕ} (b : Bool) (i : ℕ) (g : Scope → ℕ → Res A) →
+    ByFound f k found (g scope j) → ByFound f k (pick b found (not_found 25 0)) (bind (pick b (ok scope j) (refuse 25 i)) g)
 found-seen true i g h = h
 found-seen false i g h = none
 
 -- a name that is looked up is judged at its token
-found_here : (i j : ℕ) (found : Found) → ByFound (λ r. r) j found (found_at i j found)
+found_here : (i j : ℕ) (found : Result Ref Unfound) → ByFound (λ r. r) j found (found_at i j found)
 unfolding found_at
-found_here i j (One adapter number) = one
-found_here i j (Refused number detail) = none
+found_here i j (Ok r) = one
+found_here i j (Err u) = none
 
 -- ---- the reference
 
@@ -84,7 +84,7 @@ module _ {t : ℕ → Tok} where
     -- `( "name" )`, or `( "name" , adapter = A )`
     pub named-reference : (scope : Scope) (bytes : List ℕ) (kind most : ℕ) {i j : ℕ} → InByte scope → is_name bytes ≡ true →
         Stands t i (name_pieces scope bytes) j →
-        ByFound (λ r. r) j (pick (is_seen view scope) (pick_named kind bytes scope view.rows) (Refused 25 0)) (reference t view kind most i)
+        ByFound (λ r. r) j (pick (is_seen view scope) (pick_named kind bytes scope view.rows) (not_found 25 0)) (reference t view kind most i)
     unfolding name_pieces reference open_r close_r referred token_of
     named-reference scope bytes kind most {i} {j} small named s =
         let (k, behind, close) = parted (adapter_pieces scope) _ (rest (rest s)) in

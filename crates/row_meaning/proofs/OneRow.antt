@@ -1,4 +1,5 @@
 -- The call with one row that says something: what the row keeps, and what is answered.
+use Rattle.std.specs.Prelude.{Option, Some, None}
 use Prim.Native.Nat.{ℕ, ◌-◌, ◌≤◌}
 use native.Mathlib.Omega.{arith}
 use mathlib.Core.Path.{◌≡◌, ◌∙◌, refl, ap, subst}
@@ -8,24 +9,25 @@ use lib.ListN.{length, length-append}
 use lib.Seq.{get_or_at}
 use lib.Dec.{leb, eqb}
 use borrow.Author.Tests.{leb-true, ne_eqb}
+use Rattle.std.specs.Prelude.{Option, Some, None, Result}
 use Rattle.text.specs.Split.{split}
 use Rattle.text.specs.Choice.{within}
 use Rattle.text.proofs.Tests.{picked, both}
 use Rattle.tokens.specs.Rules.{Without}
 use Rattle.model.specs.Limits.{last_adapter, longest_name}
 use Rattle.model.specs.declared.Answer.{Answer}
+use Rattle.model.specs.declared.Ref.{Ref}
 use Rattle.sheet.specs.Line.{field, rest, has_comma, numeral, is_name}
 use Rattle.sheet.specs.Sheet.{well_formed, sheet_check, lines}
 use Rattle.sheet.specs.View.{View, seen, own_primary}
 use Rattle.sheet.specs.declared.Call.{Call}
-use Rattle.sheet.specs.declared.resolve.Found.{Found}
+use Rattle.sheet.specs.declared.resolve.Unfound.{Unfound}
 use Rattle.sheet.specs.declared.resolve.Scope.{Scope}
 use Rattle.language.specs.Read.{rule_call}
-use Rattle.old_rows.specs.Row.{change_of, is_known, on_adapter, scoped, behind_name, behind_kind, row_of, row_name}
+use Rattle.old_rows.specs.Row.{says, change_of, is_known, on_adapter, scoped, behind_name, behind_kind, row_of, row_name}
 use Rattle.old_rows.specs.Convert.{is_well, is_ended, is_whole, malformed_from, first_malformed, is_seen, found_of, found_in, change_in, converted, by_found, convert_from, answered, by_shape, by_primary, by_sheet, rows_of}
 use Rattle.old_rows.specs.declared.row.Change.{Change}
 use Rattle.old_rows.specs.declared.row.Row.{Row}
-use Rattle.old_rows.specs.declared.row.Row.TheVariants.{Says, Malformed}
 
 -- ---- what a row keeps
 
@@ -40,17 +42,22 @@ pub record Kept (name : List ℕ) (change : Change) (scope : Scope) : Type 0 whe
   pub known : is_known change ≡ true
   pub in_byte : InByte scope
 
-abbrev Keeps : List ℕ → Row → Type 0
-Keeps name (Says change scope) = Kept name change scope
-Keeps name Malformed = Unit {0}
+abbrev Keeps : List ℕ → Option Row → Type 0
+Keeps name (Some row) = Kept name row.change row.scope
+Keeps name None = Unit {0}
 
 module _ (name : List ℕ) (named : is_name name ≡ true) where
+  adapter-keeps : (change : Change) (a : Option ℕ) → is_known change ≡ true → Keeps name (on_adapter change a)
+  unfolding on_adapter
+  adapter-keeps change None known = tt
+  adapter-keeps change (Some a) known =
+      picked (Keeps name) (leb a last_adapter) (λ h. record { named = named; known = known; in_byte = leb-true _ _ h }) (λ h. tt)
+
   scope-keeps : (change : Change) (a : List ℕ) → is_known change ≡ true → Keeps name (scoped change a)
-  unfolding scoped on_adapter
+  unfolding scoped
   scope-keeps change a known =
       picked (Keeps name) (eqb (length a) 0) (λ e. record { named = named; known = known; in_byte = tt })
-      (λ e.
-      picked (Keeps name) (leb (numeral a) last_adapter) (λ h. record { named = named; known = known; in_byte = leb-true _ _ h }) (λ h. tt))
+      (λ e. adapter-keeps change (numeral a) known)
 
   word_keeps : (k l : List ℕ) → Keeps name (behind_name k l)
   unfolding behind_name
@@ -66,7 +73,7 @@ row_keeps l =
     (λ e. picked K (has_comma (rest l)) (λ f. picked K (is_name (field (rest l))) (λ named. word_keeps _ named (field l) (rest (rest l))) (λ g. tt)) (λ f. tt))
     (λ e. tt)
 
-pub kept : (l : List ℕ) {change : Change} {scope : Scope} → row_of l ≡ Says change scope → Kept (row_name l) change scope
+pub kept : (l : List ℕ) {change : Change} {scope : Scope} → row_of l ≡ says change scope → Kept (row_name l) change scope
 kept l e = subst (Keeps (row_name l)) e (row_keeps l)
 
 -- "A name has 1 to 48 bytes"
@@ -94,7 +101,7 @@ unfolding first_malformed malformed_from is_whole
 none-malformed {l} w well = rw (one_line w, line-ended l, well)
 
 -- the one row's trigger, or its refusal at row 1
-abbrev pub row_answer : Change → Found → Answer
+abbrev pub row_answer : Change → Result Ref Unfound → Answer
 row_answer change found = answered (by_found 1 change found (converted []))
 
 -- what is found depends on the adapters and rows that are seen
@@ -105,7 +112,7 @@ same-found v w e f change Scope.Any name = rw f
 same-found v w e f change (Scope.On a) name = rw (e, f)
 
 -- where the questions before the rows' are met, and the one row says something, it is looked up
-looked-up : (view : View) (l : List ℕ) {change : Change} {scope : Scope} → row_of l ≡ Says change scope → Without 0x0A l →
+looked-up : (view : View) (l : List ℕ) {change : Change} {scope : Scope} → row_of l ≡ says change scope → Without 0x0A l →
     by_sheet view (l ++ 0x0A ∷ []) true well_formed ≡ row_answer change (found_of view change scope (row_name l))
 unfolding by_sheet by_primary by_shape convert_from change_in found_in is_well
 looked-up view l e w =
@@ -113,7 +120,7 @@ looked-up view l e w =
     rw (some, none-malformed w (rw e), one_line w, e)
 
 -- and so it is in the call, which sees of the sheet what any call of its party sees
-pub one-row : (call : Call) (l sheet : List ℕ) {change : Change} {scope : Scope} → row_of l ≡ Says change scope → Without 0x0A l →
+pub one-row : (call : Call) (l sheet : List ℕ) {change : Change} {scope : Scope} → row_of l ≡ says change scope → Without 0x0A l →
     sheet_check sheet ≡ well_formed → own_primary call sheet ≡ true →
     rows_of call.party call.primary (l ++ 0x0A ∷ []) sheet ≡ row_answer change (found_of (seen call sheet) change scope (row_name l))
 unfolding rows_of seen own_primary

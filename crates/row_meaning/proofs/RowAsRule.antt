@@ -6,6 +6,7 @@ use mathlib.Core.Bool.{true}
 use mathlib.Core.List.{List}
 use lib.ListN.{length}
 use borrow.Author.Tests.{le-ltb}
+use Rattle.std.specs.Prelude.{Result}
 use Rattle.tokens.specs.Result.{Res}
 use Rattle.tokens.specs.Ended.{record_words}
 use Rattle.tokens.specs.Lexing.{Lexing, most_tokens, most_bytes, least_words}
@@ -15,7 +16,7 @@ use Rattle.model.specs.declared.Ref.{Ref}
 use Rattle.sheet.specs.Sheet.{well_formed, sheet_check}
 use Rattle.sheet.specs.View.{View, seen, own_primary}
 use Rattle.sheet.specs.declared.Call.{Call}
-use Rattle.sheet.specs.declared.resolve.Found.{Found}
+use Rattle.sheet.specs.declared.resolve.Unfound.{Unfound}
 use Rattle.sheet.specs.declared.resolve.Scope.{Scope}
 use Rattle.language.specs.Demand.{Gives}
 use Rattle.language.specs.Range.{range_of}
@@ -53,14 +54,14 @@ read-parsed call {text} sheet lent words {l} g few well own room =
     )
 
 -- a rule that is answered alike where any form may stand is answered so by the call
-both_found : {f : Ref → Lists} {j : ℕ} {found : Found} {m n : Res Lists} → ByFound f j found m → ByFound f j found n →
+both_found : {f : Ref → Lists} {j : ℕ} {found : Result Ref Unfound} {m n : Res Lists} → ByFound f j found m → ByFound f j found n →
     ByFound f j found (on_accepted m n)
 unfolding on_accepted
 both_found one h = h
 both_found none h = none
 
 -- what is found is answered alike of the row and of the text
-same-verdict : (l : Lexing) (change : Change) {j : ℕ} {found : Found} {m : Res Lists} → ByFound (ruled change) j found m →
+same-verdict : (l : Lexing) (change : Change) {j : ℕ} {found : Result Ref Unfound} {m : Res Lists} → ByFound (ruled change) j found m →
     SameVerdict (row_answer change found) (parsed l m)
 unfolding answered by_found onto parsed refused_with
 same-verdict l change one = record { number = refl; detail = refl; triggers = refl; conditions = refl }

@@ -21,10 +21,9 @@ use Rattle.sheet.specs.declared.resolve.Scope.{Scope}
 use Rattle.writing.specs.Pieces.{decimal}
 use Rattle.rereading.proofs.StringTokens.{without-both}
 use Rattle.old_rows.specs.Back.{kind_word, change_word, row_bytes}
-use Rattle.old_rows.specs.Row.{lamp_change, group_change, device_change, change_of, is_known, on_adapter, scoped, behind_name, behind_kind, row_of, row_name}
+use Rattle.old_rows.specs.Row.{says, lamp_change, group_change, device_change, change_of, is_known, on_adapter, scoped, behind_name, behind_kind, row_of, row_name}
 use Rattle.old_rows.specs.declared.row.Change.{Change}
 use Rattle.old_rows.specs.declared.row.Change.TheVariants.{Lamp, Group, Device, Unknown}
-use Rattle.old_rows.specs.declared.row.Row.TheVariants.{Says}
 use Rattle.row_meaning.proofs.FieldLaws.{field_seam, rest_seam, comma_seam}
 use Rattle.row_meaning.proofs.DecimalLaws.{numeral-decimal, decimal-without, decimal-some}
 
@@ -110,7 +109,7 @@ module _ (change : Change) (known : is_known change ≡ true) (name : List ℕ) 
           let behind = decimal adapter ++ 0x2C ∷ change_field change in
           rw (rest_seam kind (name ++ 0x2C ∷ behind)) (field_seam no_comma behind)
 
-      pub row-says : is_name name ≡ true → row_of (bare_row change name adapter) ≡ Says change (Scope.On adapter)
+      pub row-says : is_name name ≡ true → row_of (bare_row change name adapter) ≡ says change (Scope.On adapter)
       unfolding row_of bare_row behind_kind behind_name scoped on_adapter
       row-says rule =
           let kind = over-without 0x2C (kind_field change) (omega arith) (words change known).kind_over in

@@ -6,6 +6,7 @@ use mathlib.Core.Bool.{true, false≢true}
 use mathlib.Core.List.{List, [], ◌∷◌, map, append_assoc}
 use lib.ListN.{length}
 use borrow.Author.Tests.{eqb-false, not-true, le-ltb, ne_eqb}
+use Rattle.std.specs.Prelude.{Ok}
 use Rattle.tokens.specs.Rules.{Without}
 use Rattle.model.specs.Limits.{last_adapter}
 use Rattle.model.specs.Lists.{accepted_with}
@@ -15,16 +16,14 @@ use Rattle.model.specs.declared.TriggerRow.{TriggerRow}
 use Rattle.sheet.specs.View.{View, seen, settings_of}
 use Rattle.sheet.specs.declared.Call.{Call}
 use Rattle.sheet.specs.declared.names.Numbered.{Numbered}
-use Rattle.sheet.specs.declared.resolve.Found.TheVariants.{One}
 use Rattle.sheet.specs.declared.resolve.Scope.{Scope}
 use Rattle.sheet.proofs.ViewLaws.{seen-settings}
 use Rattle.language.specs.Limits.{most_triggers}
-use Rattle.old_rows.specs.Row.{is_known, row_of, row_name}
+use Rattle.old_rows.specs.Row.{says, is_known, row_of, row_name}
 use Rattle.old_rows.specs.Convert.{is_well, is_whole, malformed_from, first_malformed, changed_kind, trigger_by, is_seen, found_of, found_in, change_in, converted, onto, by_found, convert_from, answered, by_shape}
 use Rattle.old_rows.specs.Back.{changed_by, other, changed_of, name_back, row_for, rows_for, is_change, is_named}
 use Rattle.old_rows.specs.declared.restore.Changed.{Changed}
 use Rattle.old_rows.specs.declared.row.Change.{Change}
-use Rattle.old_rows.specs.declared.row.Row.TheVariants.{Says}
 use Rattle.old_rows.proofs.SheetNames.{BackName, back-name, back-adapter}
 use Rattle.row_meaning.proofs.FittingLaws.{fitting_fits}
 use Rattle.row_meaning.proofs.FieldLaws.{comma-free, ended, ended-lines, ended_some, ended-ends}
@@ -66,8 +65,8 @@ told (Trigger.MqttMessage name) e = absurd (false≢true e)
 -- a row without its LF says a change, and its name picks the reference
 record Reads (view : View) (change : Change) (of : Numbered) (l : List ℕ) : Type 0 where
   no_feed : Without 0x0A l
-  says : row_of l ≡ Says change (Scope.On of.adapter)
-  found : found_of view change (Scope.On of.adapter) (row_name l) ≡ One of.adapter of.number
+  says : row_of l ≡ says change (Scope.On of.adapter)
+  found : found_of view change (Scope.On of.adapter) (row_name l) ≡ Ok (record { adapter = of.adapter; number = of.number })
 
 row_reads : (view : View) (change : Change) (of : Numbered) (name : List ℕ) → is_known change ≡ true → of.kind ≡ changed_kind change → of.adapter ≤ last_adapter →
     BackName view of name → Reads view change of (bare_row change name of.adapter)

@@ -24,12 +24,11 @@ use Rattle.language.specs.Read.{read_of}
 use Rattle.writing.specs.Pieces.{Piece, spaced}
 use Rattle.writing.specs.Possible.{has_byte, is_string}
 use Rattle.rereading.specs.Rereading.{written_in}
-use Rattle.old_rows.specs.Row.{row_of, row_name}
+use Rattle.old_rows.specs.Row.{says, row_of, row_name}
 use Rattle.old_rows.specs.Convert.{rows_of}
 use Rattle.old_rows.specs.Back.{triggers_in, name_back, back_of}
 use Rattle.old_rows.specs.declared.row.Change.{Change}
 use Rattle.old_rows.specs.declared.row.Change.TheVariants.{Lamp, Group, Device, Unknown}
-use Rattle.old_rows.specs.declared.row.Row.TheVariants.{Says}
 
 -- ---- a row and a rule text
 
@@ -61,7 +60,7 @@ pub record SameVerdict (a b : Answer) : Type 0 where
 -- a row whose name a text can quote is answered as the rule text is, by whichever call, whatever topics are lent
 abbrev pub RowAsRule : Type 0
 RowAsRule =
-    (call : Call) (l sheet : List ℕ) (lent : List (List ℕ)) (words : List ℕ) (change : Change) (scope : Scope) → row_of l ≡ Says change scope →
+    (call : Call) (l sheet : List ℕ) (lent : List (List ℕ)) (words : List ℕ) (change : Change) (scope : Scope) → row_of l ≡ says change scope →
     has_byte 0x0A l ≡ false → is_string (row_name l) ≡ true → sheet_check sheet ≡ well_formed → own_primary call sheet ≡ true → least_words ≤ length words →
     SameVerdict (rows_of call.party call.primary (l ++ 0x0A ∷ []) sheet)
     (read_of call (spaced (rule_for change scope (row_name l))) sheet lent words).answer

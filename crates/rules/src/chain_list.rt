@@ -5,7 +5,7 @@ use wording::{out, split};
 // The longest chain.
 const MOST_PIECES: usize = CHAIN_WORDS - FIRST_PIECE;
 
-// A proved loop has to end: it counts down from more than there are, which is 636.
+// A proved loop has to end: it counts up to more than there are, which is 636.
 const MORE_THAN_ALL: u32 = 1000;
 
 // A piece is the place of its word in document 02's vocabulary.
@@ -14,70 +14,48 @@ fn piece(rt: &HostRuntime, k: u8) {
         rt,
         split::word(
             b"lamp sun time is in on off up down sunrise sunset level and 0 63 64 ( ) . .. == + -",
-            k as usize,
+            usize::from(k),
         ),
     );
 }
 
 // The words of a chain, one space between.
 fn line(rt: &HostRuntime, chain: &[u8]) {
-    let mut i = 0;
-    while i < chain.len() {
+    for (i, k) in chain.iter().enumerate() {
         if 0 < i {
             out::byte(rt, b' ');
         }
-        piece(rt, chain[i]);
-        i += 1;
+        piece(rt, *k);
     }
     out::line_end(rt);
 }
 
-// A word of an answer.
-fn word(answer: &[u32], i: usize) -> u32 {
-    if i < answer.len() {
-        return answer[i];
-    }
-    0
-}
-
 // The chain of an answer as bytes, as the next call takes it; those past its count are 0.
-fn chain_of(answer: &[u32]) -> [u8; MOST_PIECES] {
+fn chain_of(answer: &[u32; CHAIN_WORDS]) -> [u8; MOST_PIECES] {
     let mut chain = [0u8; MOST_PIECES];
-    let mut i = 0;
-    while i < MOST_PIECES {
-        chain[i] = (word(answer, FIRST_PIECE + i) % 256) as u8;
-        i += 1;
+    for (piece, word) in chain.iter_mut().zip(&answer[FIRST_PIECE..]) {
+        *piece = (*word % 256) as u8;
     }
     chain
 }
 
-// The chain behind that of an answer, which becomes the answer, is written; not if none follows.
-fn one_more(rt: &HostRuntime, answer: &mut [u32]) -> bool {
-    let last = chain_of(answer);
-    let count = word(answer, COUNT) as usize;
-    tergyosul::chain::tergyosul_next_chain(text::part::part(&last, 0, count), answer);
-    let next = chain_of(answer);
-    let more = word(answer, COUNT) as usize;
-    if more == 0 {
-        return false;
-    }
-    line(rt, text::part::part(&next, 0, more));
-    true
+// How many pieces it has.
+fn count_of(answer: &[u32; CHAIN_WORDS]) -> u32 {
+    answer[COUNT]
 }
 
-// The chains behind that of an answer, until none follows.
-fn all(rt: &HostRuntime, answer: &mut [u32]) {
-    let mut left = MORE_THAN_ALL;
-    while left > 0 {
-        if !one_more(rt, answer) {
-            return;
-        }
-        left -= 1;
-    }
-}
-
-// The whole list, from nothing on.
+// The whole list, from nothing on: each chain is behind that of the last answer.
 pub fn run(rt: &HostRuntime) {
     let mut answer = [0u32; CHAIN_WORDS];
-    all(rt, &mut answer);
+    for _ in 0..MORE_THAN_ALL {
+        let last = chain_of(&answer);
+        let count = count_of(&answer) as usize;
+        tergyosul::chain::tergyosul_next_chain(text::part::part(&last, 0, count), &mut answer);
+        let next = chain_of(&answer);
+        let more = count_of(&answer) as usize;
+        if more == 0 {
+            return;
+        }
+        line(rt, text::part::part(&next, 0, more));
+    }
 }

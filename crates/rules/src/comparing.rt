@@ -1,6 +1,9 @@
 // `rules same A B`: whether two rules have the same tokens, or where the first difference is, or one diagnostic. With the same tokens all calls read both
 // alike (`layout-changes-nothing`, crates/language/proofs/ReflowTheorem.antt).
-use crate::{diagnose, reading};
+use crate::given::{self, BYTES, File, NAME};
+use crate::lexed::{self, Lexed};
+use crate::reading::LEX_ANSWER;
+use tokens::{kind, record};
 use wording::{files, layout, out, say, source, stands};
 
 // Where a token begins, or a text ends.
@@ -11,58 +14,31 @@ struct Place {
 }
 
 // The place of the token with an index; that of the end where there are not so many.
-fn place_of(words: &[u32], answer: &[u32], i: usize) -> Place {
-    if i < layout::detail(answer) as usize {
+fn place_of(rule: Lexed<'_>, i: usize) -> Place {
+    if i < rule.count() {
         return Place {
-            line: tokens::record::line(words, i),
-            column: tokens::record::column(words, i),
+            line: record::line(rule.words, i),
+            column: record::column(rule.words, i),
         };
     }
     Place {
-        line: layout::line(answer),
-        column: layout::column(answer),
+        line: layout::line(rule.answer),
+        column: layout::column(rule.answer),
     }
 }
 
-// Are the words or texts with an index the same? Tokens of other kinds are, whatever their bytes.
-fn is_same_word(kind: u32, a: &[u8], a_words: &[u32], b: &[u8], b_words: &[u32], i: usize) -> bool {
-    if kind != tokens::kind::WORD && kind != tokens::kind::STRING {
+// Have the tokens with an index the same kind and the same number, and words and texts the same bytes? Tokens of other kinds are the same whatever their bytes.
+fn is_same(a: Lexed<'_>, b: Lexed<'_>, i: usize) -> bool {
+    let kind = record::kind(a.words, i);
+    if kind != record::kind(b.words, i)
+        || record::number(a.words, i) != record::number(b.words, i)
+    {
+        return false;
+    }
+    if kind != kind::WORD && kind != kind::STRING {
         return true;
     }
-    let first = tokens::record::bytes(a, a_words, i);
-    let second = tokens::record::bytes(b, b_words, i);
-    text::part::same(first, second)
-}
-
-// Have the tokens with an index the same kind and the same number, and words and texts the same bytes?
-fn is_same(a: &[u8], a_words: &[u32], b: &[u8], b_words: &[u32], i: usize) -> bool {
-    let kind = tokens::record::kind(a_words, i);
-    if kind != tokens::record::kind(b_words, i) {
-        return false;
-    }
-    if tokens::record::number(a_words, i) != tokens::record::number(b_words, i) {
-        return false;
-    }
-    is_same_word(kind, a, a_words, b, b_words, i)
-}
-
-// The index of the first of so many tokens that is not the same; their count where there is none.
-fn first_difference(a: &[u8], a_words: &[u32], b: &[u8], b_words: &[u32], count: usize) -> usize {
-    let mut i = 0;
-    while i < count {
-        if !is_same(a, a_words, b, b_words, i) {
-            return i;
-        }
-        i += 1;
-    }
-    count
-}
-
-fn least(m: u32, n: u32) -> u32 {
-    if m < n {
-        return m;
-    }
-    n
+    record::bytes(a.file.bytes, a.words, i) == record::bytes(b.file.bytes, b.words, i)
 }
 
 // The number of the token with an index, counted from 1.
@@ -71,11 +47,10 @@ fn ordinal(i: usize) -> u32 {
 }
 
 // The file and the place, and which token it is.
-fn head(rt: &HostRuntime, answer: &[u32], name: &[u8], i: usize, p: Place) {
-    let count = layout::detail(answer);
-    let row = [p.line, p.column, ordinal(i), count];
-    out::shown(rt, name);
-    if i < count as usize {
+fn head(rt: &HostRuntime, rule: Lexed<'_>, i: usize, p: Place) {
+    let row = [p.line, p.column, ordinal(i), layout::detail(rule.answer)];
+    out::shown(rt, rule.file.name);
+    if i < rule.count() {
         say::numbers(rt, &row, b":%n0:%n1: token %n2 of %n3\n");
         return;
     }
@@ -83,18 +58,11 @@ fn head(rt: &HostRuntime, answer: &[u32], name: &[u8], i: usize, p: Place) {
 }
 
 // What one of the rules has at the first difference.
-fn shown(
-    rt: &HostRuntime,
-    text: &[u8],
-    words: &[u32],
-    answer: &[u32],
-    name: &[u8],
-    i: usize,
-    p: Place,
-) {
-    head(rt, answer, name, i, p);
+fn shown(rt: &HostRuntime, rule: Lexed<'_>, i: usize, p: Place) {
+    let text = rule.file.bytes;
+    head(rt, rule, i, p);
     source::marked(rt, source::line_of(text, p.line), p.line, p.column);
-    stands::at(rt, text, words, i, layout::detail(answer) as usize);
+    stands::at(rt, rule.tokens(), i);
     out::line_end(rt);
 }
 
@@ -119,80 +87,46 @@ corresponding place.
     say::numbers(rt, answer, b"same: %n3 token%P3 each\n");
 }
 
-// Says how the tokens compare. Word 3 of an answer is their count.
-fn compared(
-    rt: &HostRuntime,
-    a: &[u8],
-    a_words: &[u32],
-    a_answer: &[u32],
-    a_name: &[u8],
-    b: &[u8],
-    b_words: &[u32],
-    b_answer: &[u32],
-    b_name: &[u8],
-) {
-    let m = layout::detail(a_answer);
-    let n = layout::detail(b_answer);
-    let i = first_difference(a, a_words, b, b_words, least(m, n) as usize);
-    if i == m as usize && m == n {
-        same(rt, a_answer);
+// Says how the tokens compare.
+fn compared(rt: &HostRuntime, a: Lexed<'_>, b: Lexed<'_>) {
+    let least = a.count().min(b.count());
+    let different = (0..least).find(|i| !is_same(a, b, *i));
+    if different.is_none() && a.count() == b.count() {
+        same(rt, a.answer);
         return;
     }
-    let p = place_of(a_words, a_answer, i);
-    let q = place_of(b_words, b_answer, i);
-    shown(rt, a, a_words, a_answer, a_name, i, p);
-    shown(rt, b, b_words, b_answer, b_name, i, q);
+    let i = different.unwrap_or(least);
+    let p = place_of(a, i);
+    let q = place_of(b, i);
+    shown(rt, a, i, p);
+    shown(rt, b, i, q);
     verdict(rt, i, p, q);
 }
 
 // Cuts both texts into tokens. Of two that are refused the first is shown.
-fn answered(rt: &HostRuntime, a: &[u8], b: &[u8], a_name: &[u8], b_name: &[u8]) {
+fn answered(rt: &HostRuntime, a: File<'_>, b: File<'_>) {
     let mut a_words = [0u32; tokens::lexer::LEAST_WORDS];
     let mut b_words = [0u32; tokens::lexer::LEAST_WORDS];
-    let mut a_answer = [0u32; 4];
-    let mut b_answer = [0u32; 4];
-    if reading::lex(a, &mut a_words, &mut a_answer) != 0 {
-        diagnose::uncut(rt, a, &mut a_words, &a_answer, a_name);
-        return;
+    let mut a_answer = [0u32; LEX_ANSWER];
+    let mut b_answer = [0u32; LEX_ANSWER];
+    if let Some(a) = lexed::cut(rt, a, &mut a_words, &mut a_answer)
+        && let Some(b) = lexed::cut(rt, b, &mut b_words, &mut b_answer)
+    {
+        compared(rt, a, b);
     }
-    if reading::lex(b, &mut b_words, &mut b_answer) != 0 {
-        diagnose::uncut(rt, b, &mut b_words, &b_answer, b_name);
-        return;
-    }
-    compared(
-        rt, a, &a_words, &a_answer, a_name, b, &b_words, &b_answer, b_name,
-    );
-}
-
-fn with_files(rt: &HostRuntime, a_name: &[u8], b_name: &[u8]) {
-    let mut a = [0u8; 20000];
-    let mut b = [0u8; 20000];
-    let first = files::load(rt, a_name, &mut a);
-    if first.fault != 0 {
-        return;
-    }
-    let second = files::load(rt, b_name, &mut b);
-    if second.fault != 0 {
-        return;
-    }
-    answered(
-        rt,
-        text::part::part(&a, 0, first.size),
-        text::part::part(&b, 0, second.size),
-        a_name,
-        b_name,
-    );
 }
 
 // The names of the files are the two words behind the command.
 pub fn run(rt: &HostRuntime) {
-    let mut a_name = [0u8; 4095];
-    let mut b_name = [0u8; 4095];
-    let m = files::argument(rt, 2, &mut a_name);
-    let n = files::argument(rt, 3, &mut b_name);
-    with_files(
-        rt,
-        text::part::part(&a_name, 0, m),
-        text::part::part(&b_name, 0, n),
-    );
+    let mut a_name = [0u8; NAME];
+    let mut b_name = [0u8; NAME];
+    let mut a = [0u8; BYTES];
+    let mut b = [0u8; BYTES];
+    let a_name = files::argument(rt, 2, &mut a_name);
+    let b_name = files::argument(rt, 3, &mut b_name);
+    if let Some(a) = given::load(rt, a_name, &mut a)
+        && let Some(b) = given::load(rt, b_name, &mut b)
+    {
+        answered(rt, a, b);
+    }
 }

@@ -6,40 +6,20 @@ const MOST: usize = 4;
 
 // Is a trigger the same as one of the first so many of a list?
 fn is_among(a: &[u8], x: Trigger, b: &[u8], list: Triggers, count: usize) -> bool {
-    let mut i: usize = 0;
-    while i < MOST {
-        let row = list.rows[i];
-        let y = row.trigger;
-        if i < count && compare::same_trigger(a, x, b, y) {
-            return true;
-        }
-        i += 1;
-    }
-    false
+    list.rows
+        .iter()
+        .take(count)
+        .any(|row| compare::same_trigger(a, x, b, row.trigger))
 }
 
-// Is the trigger with an index of the second list the same as none of the first so many of the first, and as none before it?
-fn is_new(a: &[u8], xs: Triggers, count: usize, b: &[u8], ys: Triggers, i: usize) -> bool {
-    if MOST <= i || ys.count <= i {
-        return false;
-    }
-    let row = ys.rows[i];
-    let y = row.trigger;
-    if is_among(b, y, a, xs, count) {
-        return false;
-    }
-    !is_among(b, y, b, ys, i)
-}
-
-// A number, and one more for each trigger of the second list that is new.
+// A number, and one more for each trigger of the second list that is the same as none of the first so many of the first, and as none before it.
 fn with_new(n: u32, a: &[u8], xs: Triggers, count: usize, b: &[u8], ys: Triggers) -> u32 {
     let mut all = n;
-    let mut i: usize = 0;
-    while i < MOST {
-        if is_new(a, xs, count, b, ys, i) {
+    for (i, row) in ys.rows.iter().enumerate().take(ys.count) {
+        let y = row.trigger;
+        if !is_among(b, y, a, xs, count) && !is_among(b, y, b, ys, i) {
             all = text::place::count_up(all);
         }
-        i += 1;
     }
     all
 }
@@ -55,23 +35,13 @@ fn is_same(a: &[u8], xs: Conditions, b: &[u8], ys: Conditions, i: usize) -> bool
     if MOST <= i || xs.count <= i || ys.count <= i {
         return xs.count == ys.count;
     }
-    let of_first = xs.rows[i];
-    let of_second = ys.rows[i];
-    let x = of_first.condition;
-    let y = of_second.condition;
-    compare::same_condition(a, x, b, y)
+    compare::same_condition(a, xs.rows[i].condition, b, ys.rows[i].condition)
 }
 
 // The first condition that differs, counted from 1.
 pub fn first_difference(a: &[u8], xs: Conditions, b: &[u8], ys: Conditions) -> u32 {
-    let mut n: u32 = 1;
-    let mut i: usize = 0;
-    while i < MOST {
-        if !is_same(a, xs, b, ys, i) {
-            return n;
-        }
-        n = text::place::count_up(n);
-        i += 1;
-    }
-    n
+    let i = (0..MOST)
+        .find(|i| !is_same(a, xs, b, ys, *i))
+        .unwrap_or(MOST);
+    text::place::count_up(text::place::held(i))
 }

@@ -1,25 +1,20 @@
 // `rules rows FILE SHEET`, with perhaps options: each row of the archive, and its trigger in plain words; or one diagnostic.
-use crate::{checking, diagnose, reading};
-use sheet::Call;
-use wording::{archive, archive_name, layout, out, say, seen};
+use crate::given::{BYTES, File, Setting};
+use crate::reading::ANSWER;
+use crate::{diagnose, entry};
+use wording::archive::Row;
+use wording::{archive, archive_name, layout, out, say};
 
 // A row and its trigger; nothing where there is no such row.
 fn line(rt: &HostRuntime, rows: &[u8], sheet: &[u8], answer: &[u32], n: u32) {
-    if !checking::is_used(answer, n) {
+    let row = n as usize;
+    if !entry::is_used(answer, row) {
         return;
     }
     say::number(rt, n, b"row %n0, `");
-    out::shown(rt, archive::row(rows, n));
+    out::shown(rt, Row::of(rows, n).0);
     out::bytes(rt, b"`: ");
-    checking::line(rt, b"", sheet, answer, n);
-}
-
-fn lines(rt: &HostRuntime, rows: &[u8], sheet: &[u8], answer: &[u32]) {
-    let mut n: u32 = 1;
-    while n < 5 {
-        line(rt, rows, sheet, answer, n);
-        n += 1;
-    }
+    entry::line(rt, b"", sheet, answer, row);
 }
 
 // File, row and number, before what is wrong.
@@ -42,67 +37,62 @@ fn verdict(rt: &HostRuntime, answer: &[u32]) {
 }
 
 // The diagnostic of a row: 60, 25 or 31 to 34.
-fn refused(rt: &HostRuntime, rows: &[u8], sheet: &[u8], answer: &[u32], name: &[u8], party: u8) {
+fn refused(rt: &HostRuntime, rows: File<'_>, setting: Setting<'_>, answer: &[u32]) {
     let number = layout::number(answer);
     let n = layout::line(answer);
-    head(rt, answer, name);
+    head(rt, answer, rows.name);
     if number == 60 {
-        archive::malformed(rt, rows, n);
+        archive::malformed(rt, rows.bytes, n);
     } else {
-        let l = archive::row(rows, n);
-        archive_name::show(rt, l, sheet, number, n, layout::detail(answer), party);
+        archive_name::show(
+            rt,
+            Row::of(rows.bytes, n),
+            setting.sheet.bytes,
+            number,
+            n,
+            layout::detail(answer),
+            setting.call.party,
+        );
     }
     verdict(rt, answer);
 }
 
 // 53, in which no text has a part.
-fn not_own(rt: &HostRuntime, sheet: &[u8], answer: &[u32], sheet_name: &[u8], call: Call) {
+fn not_own(rt: &HostRuntime, setting: Setting<'_>, answer: &[u32]) {
     let mut words = [0u32; tokens::lexer::LEAST_WORDS];
-    diagnose::show(
-        rt, b"", sheet, b"", &mut words, answer, sheet_name, sheet_name, call,
-    );
+    let none = File {
+        name: setting.sheet.name,
+        bytes: b"",
+    };
+    let alone = Setting {
+        topics: b"",
+        ..setting
+    };
+    diagnose::show(rt, none, alone, &mut words, answer);
 }
 
 // What came of the call, said with what its party sees of the sheet.
-fn said(
-    rt: &HostRuntime,
-    call: Call,
-    rows: &[u8],
-    sheet: &[u8],
-    answer: &[u32],
-    rows_name: &[u8],
-    sheet_name: &[u8],
-) {
-    let number = layout::number(answer);
-    if number == 53 {
-        not_own(rt, sheet, answer, sheet_name, call);
-        return;
+fn said(rt: &HostRuntime, rows: File<'_>, setting: Setting<'_>, answer: &[u32]) {
+    match layout::number(answer) {
+        0 => {
+            for n in 1..5 {
+                line(rt, rows.bytes, setting.sheet.bytes, answer, n);
+            }
+            entry::verdict(rt, answer);
+        }
+        53 => not_own(rt, setting, answer),
+        _ => refused(rt, rows, setting, answer),
     }
-    if number != 0 {
-        refused(rt, rows, sheet, answer, rows_name, call.party);
-        return;
-    }
-    lines(rt, rows, sheet, answer);
-    checking::verdict(rt, answer);
 }
 
 // Converts the rows and says what came of it.
-pub fn run(
-    rt: &HostRuntime,
-    call: Call,
-    rows: &[u8],
-    sheet: &[u8],
-    rows_name: &[u8],
-    sheet_name: &[u8],
-) {
-    let mut answer = [0u32; 108];
-    reading::convert(call, rows, sheet, &mut answer);
+pub fn run(rt: &HostRuntime, rows: File<'_>, setting: Setting<'_>) {
+    let mut answer = [0u32; ANSWER];
+    let mut buffer = [0u8; BYTES];
+    setting.convert(rows.bytes, &mut answer);
     if layout::number(&answer) == 3 {
-        diagnose::bad_sheet(rt, sheet, &answer, sheet_name);
+        diagnose::bad_sheet(rt, setting.sheet, &answer);
         return;
     }
-    let mut buffer = [0u8; 20000];
-    let size = seen::put(sheet, call.party, &mut buffer);
-    let seen = text::part::part(&buffer, 0, size);
-    said(rt, call, rows, seen, &answer, rows_name, sheet_name);
+    said(rt, rows, setting.seen(&mut buffer), &answer);
 }

@@ -6,10 +6,13 @@ mod checking;
 mod comparing;
 mod diagnose;
 mod entries;
+mod entry;
 mod expected;
 mod from_rows;
+mod given;
 mod help;
 mod joining;
+mod lexed;
 mod listing;
 mod lists;
 mod range;
@@ -17,8 +20,8 @@ mod reading;
 mod to_rows;
 mod writing_out;
 
-use crate::checking::Task;
-use wording::options::Options;
+use crate::given::{File, Setting};
+use wording::options::{BadArguments, Options};
 use wording::{files, options, out};
 
 fn usage(rt: &HostRuntime) {
@@ -97,75 +100,49 @@ different, 2 for bad arguments and for files that cannot be read.
 }
 
 // What is wrong with the arguments, and the last line of the output.
-fn bad_arguments(rt: &HostRuntime, wrong: u32) {
-    let table = b"_ there is no such command
-1 check takes two files: a rule and a name sheet
-2 tokens takes one file: a rule
-3 there is no such option; before the name of a file that begins with a dash write ./
-4 behind --party, as behind --primary, stands a number from 0 to 255 without leading zeros
-5 an option is given twice
-6 --archive and --shop do not go together
-7 nothing stands behind chains
-8 same takes two files, both of them rules, and no option; before the name of a file that begins with a dash write ./
-9 join takes three files: two rules and a name sheet
-10 --archive and --shop do not go together with join, nor with rows-back, which read rules without them
-11 write takes two files: a rule and a name sheet
-12 rows takes two files: one of rows and a name sheet
-13 rows-back takes two files: a rule and a name sheet
-14 --archive, --shop and --topics do not go together with rows, which reads no rule";
-    out::entry(rt, table, wrong);
+fn bad_arguments(rt: &HostRuntime, wrong: BadArguments) {
+    out::text(rt, wrong);
     out::bytes(
         rt,
         b"\nusage: rules check [--archive | --shop] [--party P] [--primary A] [--topics FILE] RULES SHEET | rules tokens RULES | rules same A B | rules join [--party P] [--primary A] [--topics FILE] A B SHEET | rules write [--archive | --shop] [--party P] [--primary A] [--topics FILE] RULES SHEET | rules rows [--party P] [--primary A] FILE SHEET | rules rows-back [--party P] [--primary A] [--topics FILE] RULES SHEET | rules chains | rules help\nrefused: bad arguments\n",
     );
 }
 
-fn is_help(command: &[u8]) -> bool {
-    text::part::same(command, b"help")
-        || text::part::same(command, b"--help")
-        || text::part::same(command, b"-h")
-}
-
-// The options of what is done with two files, the sheet's among them; `wrong` is what is wrong if there are not two.
-fn options_of(rt: &HostRuntime, task: Task, count: usize, wrong: u32) -> Options {
-    let o = options::before_files(rt, count, 2, wrong);
-    match task {
-        Task::Back => options::without_habit(o),
-        Task::Rows => options::without_rule(o),
-        _ => o,
+// Runs a command that takes two files, of which the second is a name sheet, if nothing is wrong with its options.
+fn with_files<F: FnOnce(&HostRuntime, File<'_>, Setting<'_>)>(
+    rt: &HostRuntime,
+    o: Result<Options, BadArguments>,
+    count: usize,
+    run: F,
+)
+    requires { F.IsAlwaysCallable run }
+{
+    match o {
+        Ok(o) => given::with_files(rt, o, count, run),
+        Err(wrong) => bad_arguments(rt, wrong),
     }
-}
-
-// Checks a rule, or does something else with two files, which stand behind the options.
-fn check(rt: &HostRuntime, count: usize, task: Task, wrong: u32) {
-    let o = options_of(rt, task, count, wrong);
-    if o.wrong != 0 {
-        bad_arguments(rt, o.wrong);
-        return;
-    }
-    checking::run(rt, o, task, count);
 }
 
 // Joins two rules: behind the options stand their files and the sheet's, and nothing else.
 fn join(rt: &HostRuntime, count: usize) {
-    let o = options::without_habit(options::before_files(rt, count, 3, 9));
-    if o.wrong != 0 {
-        bad_arguments(rt, o.wrong);
-        return;
+    let o = Options::before_files(rt, count, 3, BadArguments::JoinFiles);
+    match o.and_then(Options::without_habit) {
+        Ok(o) => joining::run(rt, o, count),
+        Err(wrong) => bad_arguments(rt, wrong),
     }
-    joining::run(rt, o, count);
 }
 
+// Lists the tokens of a rule.
 fn list(rt: &HostRuntime, count: usize) {
     if options::is_option(rt, 2) {
-        bad_arguments(rt, 3);
+        bad_arguments(rt, BadArguments::Unknown);
         return;
     }
     if count == 3 {
         listing::run(rt);
         return;
     }
-    bad_arguments(rt, 2);
+    bad_arguments(rt, BadArguments::TokensFiles);
 }
 
 fn compare(rt: &HostRuntime, count: usize) {
@@ -173,7 +150,7 @@ fn compare(rt: &HostRuntime, count: usize) {
         comparing::run(rt);
         return;
     }
-    bad_arguments(rt, 8);
+    bad_arguments(rt, BadArguments::SameFiles);
 }
 
 fn chains(rt: &HostRuntime, count: usize) {
@@ -181,53 +158,44 @@ fn chains(rt: &HostRuntime, count: usize) {
         chain_list::run(rt);
         return;
     }
-    bad_arguments(rt, 7);
-}
-
-// Runs a command that takes a name sheet.
-fn with_sheet(rt: &HostRuntime, command: &[u8], count: usize) {
-    if text::part::same(command, b"join") {
-        join(rt, count);
-        return;
-    }
-    if text::part::same(command, b"write") {
-        check(rt, count, Task::Write, 11);
-        return;
-    }
-    if text::part::same(command, b"rows") {
-        check(rt, count, Task::Rows, 12);
-        return;
-    }
-    if text::part::same(command, b"rows-back") {
-        check(rt, count, Task::Back, 13);
-        return;
-    }
-    if !text::part::same(command, b"check") {
-        bad_arguments(rt, 0);
-        return;
-    }
-    check(rt, count, Task::Check, 1);
+    bad_arguments(rt, BadArguments::ChainsFiles);
 }
 
 // Runs a command of a call with so many arguments, its own name and the command among them.
 fn run(rt: &HostRuntime, command: &[u8], count: usize) {
-    if is_help(command) {
-        usage(rt);
-        return;
+    match command {
+        b"help" | b"--help" | b"-h" => usage(rt),
+        b"tokens" => list(rt, count),
+        b"same" => compare(rt, count),
+        b"chains" => chains(rt, count),
+        b"check" => {
+            let o = Options::before_files(rt, count, 2, BadArguments::CheckFiles);
+            with_files(rt, o, count, |rt, rule, setting| {
+                checking::run(rt, rule, setting, checking::show)
+            });
+        }
+        b"join" => join(rt, count),
+        b"write" => {
+            let o = Options::before_files(rt, count, 2, BadArguments::WriteFiles);
+            with_files(rt, o, count, |rt, rule, setting| {
+                checking::run(rt, rule, setting, writing_out::run)
+            });
+        }
+        b"rows" => {
+            let o = Options::before_files(rt, count, 2, BadArguments::RowsFiles);
+            with_files(rt, o.and_then(Options::without_rule), count, from_rows::run);
+        }
+        b"rows-back" => {
+            let o = Options::before_files(rt, count, 2, BadArguments::BackFiles);
+            with_files(
+                rt,
+                o.and_then(Options::without_habit),
+                count,
+                |rt, rule, setting| { checking::run(rt, rule, setting, to_rows::run) },
+            );
+        }
+        _ => bad_arguments(rt, BadArguments::NoCommand),
     }
-    if text::part::same(command, b"tokens") {
-        list(rt, count);
-        return;
-    }
-    if text::part::same(command, b"same") {
-        compare(rt, count);
-        return;
-    }
-    if text::part::same(command, b"chains") {
-        chains(rt, count);
-        return;
-    }
-    with_sheet(rt, command, count);
 }
 
 fn main(rt: HostRuntime) {
@@ -237,6 +205,5 @@ fn main(rt: HostRuntime) {
         usage(&rt);
         return;
     }
-    let n = files::argument(&rt, 1, &mut command);
-    run(&rt, text::part::part(&command, 0, n), count);
+    run(&rt, files::argument(&rt, 1, &mut command), count);
 }

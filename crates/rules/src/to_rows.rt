@@ -1,126 +1,95 @@
 // `rules rows-back RULES SHEET`, with perhaps options, where the rule is accepted: its rows, alone on standard output, and what was left out of the original on
 // standard error. Or one diagnostic.
-use crate::{checking, reading, writing_out};
-use sheet::Call;
+use crate::checking::Accepted;
+use crate::entry::{self, Entry};
+use crate::reading::LEX_ANSWER;
+use crate::{reading, writing_out};
+use wording::lexed::Lexed;
 use wording::{layout, out, rewritten, say, seen, source, unnamed};
 
 // File, number and entry, before what is wrong with it.
-fn head(rt: &HostRuntime, number: u32, answer: &[u32], line: u32, text_name: &[u8]) {
-    out::shown(rt, text_name);
+fn head(rt: &HostRuntime, a: Accepted<'_>, number: u32, e: Entry) {
+    out::shown(rt, a.rule.name);
     say::number(rt, number, b": refusal %n0: ");
-    writing_out::ordinal(rt, answer, line);
+    e.name(rt);
 }
 
 // The entry, in plain words.
-fn entry(rt: &HostRuntime, text: &[u8], sheet: &[u8], answer: &[u32], line: u32, text_name: &[u8]) {
+fn line(rt: &HostRuntime, a: Accepted<'_>, e: Entry) {
     out::line_end(rt);
-    out::shown(rt, text_name);
+    out::shown(rt, a.rule.name);
     out::bytes(rt, b": ");
-    let row = writing_out::row_of(answer, line);
-    checking::line(rt, text, sheet, answer, text::place::held(row));
+    entry::line(rt, a.rule.bytes, a.setting.sheet.bytes, a.answer, e.row());
 }
 
 // The last line of the output.
-fn verdict(rt: &HostRuntime, number: u32, answer: &[u32], line: u32) {
+fn verdict(rt: &HostRuntime, number: u32, e: Entry) {
     say::number(rt, number, b"refused: %n0 at ");
-    writing_out::ordinal(rt, answer, line);
+    e.name(rt);
     out::line_end(rt);
 }
 
-// Of 61: what is wrong with a trigger, or with a condition.
-fn wrong(rt: &HostRuntime, is_trigger: bool) {
-    if is_trigger {
-        out::bytes(rt, b" is none that a row says");
-        return;
+// Of 61: what is wrong with an entry.
+fn wrong(e: Entry) -> &'static [u8] {
+    match e {
+        Entry::Trigger(_) => b" is none that a row says",
+        Entry::Condition(_) => b" has no place: rows have no conditions",
     }
-    out::bytes(rt, b" has no place: rows have no conditions");
 }
 
 // The way out of 61.
-fn way_out(rt: &HostRuntime, is_trigger: bool) {
-    source::margin(rt, 0, b'=');
-    if is_trigger {
-        out::bytes(
-            rt,
-            b" help: a row says that a lamp turns on or off, a group becomes any_on or all_off, or a device goes offline or comes online: keep this trigger in a rule\n",
-        );
-        return;
+fn way_out(e: Entry) -> &'static [u8] {
+    match e {
+        Entry::Trigger(_) => {
+            b" help: a row says that a lamp turns on or off, a group becomes any_on or all_off, or a device goes offline or comes online: keep this trigger in a rule\n"
+        }
+        Entry::Condition(_) => b" help: keep the rule, or leave its `if` part out\n",
     }
-    out::bytes(rt, b" help: keep the rule, or leave its `if` part out\n");
 }
 
-// 61: the entry with an ordinal is none that a row says.
-fn unsaid(
-    rt: &HostRuntime,
-    text: &[u8],
-    sheet: &[u8],
-    answer: &[u32],
-    line: u32,
-    text_name: &[u8],
-) {
-    let is_trigger = line <= layout::triggers(answer);
-    head(rt, 61, answer, line, text_name);
-    wrong(rt, is_trigger);
-    entry(rt, text, sheet, answer, line, text_name);
-    way_out(rt, is_trigger);
-    verdict(rt, 61, answer, line);
+// 61: an entry is none that a row says.
+fn unsaid(rt: &HostRuntime, a: Accepted<'_>, e: Entry) {
+    head(rt, a, 61, e);
+    out::bytes(rt, wrong(e));
+    line(rt, a, e);
+    source::margin(rt, 0, b'=');
+    out::bytes(rt, way_out(e));
+    verdict(rt, 61, e);
 }
 
-// 62: the trigger with an ordinal has no name that a row may have.
-fn without_name(
-    rt: &HostRuntime,
-    call: Call,
-    text: &[u8],
-    sheet: &[u8],
-    answer: &[u32],
-    line: u32,
-    text_name: &[u8],
-    sheet_name: &[u8],
-) {
-    let settings = seen::settings(sheet, call);
-    let row = writing_out::row_of(answer, line);
-    head(rt, 62, answer, line, text_name);
+// 62: a trigger has no name that a row may have.
+fn without_name(rt: &HostRuntime, a: Accepted<'_>, e: Entry) {
+    let sheet = a.setting.sheet;
+    let settings = seen::settings(sheet.bytes, a.setting.call);
+    head(rt, a, 62, e);
     out::bytes(rt, b" needs a name in its row, and ");
-    unnamed::wrong(rt, sheet, settings, answer, row);
-    entry(rt, text, sheet, answer, line, text_name);
-    unnamed::show(rt, sheet, settings, answer, row, sheet_name);
-    verdict(rt, 62, answer, line);
+    unnamed::wrong(rt, sheet.bytes, settings, a.answer, e.row());
+    line(rt, a, e);
+    unnamed::show(rt, sheet.bytes, settings, a.answer, e.row(), sheet.name);
+    verdict(rt, 62, e);
 }
 
 // Says what was left out of the rule.
 fn left_out(rt: &HostRuntime, text: &[u8], words: &mut [u32], rows: &[u8]) {
-    let mut answer = [0u32; 4];
+    let mut answer = [0u32; LEX_ANSWER];
     reading::lex(text, words, &mut answer);
-    rewritten::show_rows(rt, text, words, layout::detail(&answer) as usize, rows);
+    let count = layout::detail(&answer) as usize;
+    rewritten::show_rows(&rt.stderr(), Lexed { text, words, count }, rows);
 }
 
-// What came of a rule that is accepted, said with what its party sees of the sheet.
-pub fn run(
-    rt: &HostRuntime,
-    call: Call,
-    text: &[u8],
-    sheet: &[u8],
-    lent: &[u8],
-    words: &mut [u32],
-    answer: &[u32],
-    text_name: &[u8],
-    sheet_name: &[u8],
-) {
+// What came of converting a rule that is accepted, said with what its party sees of the sheet.
+pub fn run(rt: &HostRuntime, a: Accepted<'_>, words: &mut [u32]) {
     let mut buffer = [0u8; old_rows::restore::LEAST_BYTES];
-    let w = reading::back(call, text, sheet, lent, words, &mut buffer);
-    if w.number == 61 {
-        unsaid(rt, text, sheet, answer, w.line, text_name);
-        return;
+    let w = a.setting.back(a.rule.bytes, words, &mut buffer);
+    let e = Entry::of(a.answer, w.line);
+    match w.number {
+        0 => {
+            let rows = text::part::part(&buffer, 0, w.length as usize);
+            left_out(rt, a.rule.bytes, words, rows);
+            out::bytes(rt, rows);
+        }
+        61 => unsaid(rt, a, e),
+        62 => without_name(rt, a, e),
+        number => writing_out::faulty(rt, number),
     }
-    if w.number == 62 {
-        without_name(rt, call, text, sheet, answer, w.line, text_name, sheet_name);
-        return;
-    }
-    if w.number != 0 {
-        writing_out::faulty(rt, w.number);
-        return;
-    }
-    let rows = text::part::part(&buffer, 0, w.length as usize);
-    left_out(rt, text, words, rows);
-    out::bytes(rt, rows);
 }

@@ -15,7 +15,6 @@ use Rattle.text.specs.Split.{split}
 use Rattle.text.proofs.Tests.{told-yes, told-no}
 use Rattle.tokens.specs.Result.{ok, refuse}
 use Rattle.tokens.specs.Phrase.{words_in, position, choice_by}
-use Rattle.tokens.proofs.Chain.{taken-no, taken-same, then-taken, stop_taken}
 use Rattle.sections.specs.First.{first_words, place_from}
 use Rattle.language.specs.Trigger.{trigger_words}
 use Rattle.language.specs.Condition.{condition_words}
@@ -54,6 +53,3 @@ condition_by_lem i j w d e = by_place condition_words i j w refl d e
 
 -- closes a chain of comparisons
 pub ruleset places = (rules, told-yes, told-no)
-
--- closes a choice by its place
-pub ruleset firsts = (rules, taken-no, taken-same, then-taken, stop_taken, trigger_by_lem, condition_by_lem)

@@ -1,6 +1,6 @@
 -- Numbers of 32 bits behind a sign: what the machine holds in 64 signed bits, and in 32.
 use Prim.Native.Nat.{ℕ, zero, suc, ◌<◌, ◌≤◌, ◌^◌}
-use mathlib.Core.Path.{◌≡◌, ◌∙◌, ap}
+use mathlib.Core.Path.{◌≡◌, ◌∙◌, refl, ap}
 use mathlib.Core.Bool.{Bool, true, false}
 use native.Mathlib.Omega.{arith}
 use lib.IntN.{ℤ, pos, neg_ℤ, ◌-ℤ◌, +ℤ_idl}
@@ -9,7 +9,11 @@ use mir.Val.{SFits, to_z, of_z}
 use mir.Facts.{to_z-of_z, to_z_pos}
 use borrow.Author.Rules.{rules}
 use Rattle.language.specs.Words.{signed}
-use Rattle.language.specs.Timeval.{most_offset}
+use Rattle.language.specs.Timeval.{most_offset, offset_bound}
+use Rattle.text.proofs.Tests.{le_yes}
+use Rattle.tokens.specs.Result.{ok}
+use Rattle.model.specs.declared.SolarEvent.{SolarEvent}
+use Rattle.model.specs.declared.TimeBound.TheVariants.{Solar}
 
 -- a number of 32 bits is held as it is, and its negation is what the machine computes
 as_pos : (n : ℕ) → n < 2 ^ 32 → to_z w64 n ≡ pos n
@@ -55,5 +59,12 @@ narrows z minus ms fits e d h = rw (same64 (signed minus ms) fits e) (fits-offse
 pub narrowed : (z : ℤ) (minus : Bool) (ms : ℕ) {most : ℕ} → SFits w64 z → z ≡ signed minus ms → most ≡ most_offset minus → ms ≤ most →
     to_z w32 (of_z w32 (to_z w64 (of_z w64 z))) ≡ signed minus ms
 narrowed z minus ms fits e d h = rw (same64 (signed minus ms) fits e) (to_z-of_z (fits-offset minus ms (rw (← d) h)))
+
+-- a solar event with an offset that is short enough
+pub solar_within : (event : SolarEvent) (minus : Bool) (i ms j : ℕ) {z : ℤ} {most : ℕ} → SFits w64 z → z ≡ signed minus ms → most ≡ most_offset minus →
+    ms ≤ most → ok (Solar event (to_z w32 (of_z w32 (to_z w64 (of_z w64 z))))) j ≡ offset_bound event minus i ms j
+unfolding offset_bound
+solar_within event minus i ms j {z} fits e d h =
+    rw (narrowed z minus ms fits e d h) (le_yes ms (most_offset minus) _ _ (rw (← d) h) refl)
 
 pub ruleset signs = (rules, negation_fits, signed-minus, signed-plus)

@@ -1,368 +1,243 @@
 // Values and readings, ported from expr.rs.
 ghost use Rattle.std.specs.Prelude.{◌≡◌};
-ghost use Rattle.tokens.specs.Cursor.{tokens};
+ghost use Rattle.tokens.specs.Cursor.{tokens, to_taken};
 ghost use Rattle.tokens.specs.Record.{capacity};
 ghost use Rattle.sheet.specs.View.{view_of};
 ghost use Rattle.language.specs.Range.{range_of};
 ghost use Rattle.language.specs.Expr.{lamp_property, group_property, input_property, time_property, sun_property, event_property, lamp_reading, group_reading, input_reading, time_reading, sun_reading, event_reading, var_reading, reading_by, reading_at, literal_at, delta_at, with_delta, read_value, value_at};
-ghost use Rattle.sections.specs.Answers.{to_reading, to_value};
 
 use crate::{name, words};
 use model::{
-    Delta, EventReading, GroupReading, InputReading, LampReading, Reading, SunReading, TimeReading,
-    Value,
+    EventReading, GroupReading, InputReading, LampReading, Reading, SunReading, TimeReading, Value,
 };
-use references::args::InputAnswer;
-use references::refs::{IndexAnswer, RefAnswer};
 use references::{args, refs};
-use sheet::{Settings, profile};
-use tokens::cursor::{Accepted, Cursor, Refusal, Taken};
+use sheet::{View, profile};
+use tokens::cursor::{Cursor, Taken, Tokens};
 use tokens::kind;
 
-#[derive(Clone, Copy)]
-pub enum ReadingAnswer {
-    Got(Reading, Cursor),
-    No(Refusal),
-}
-
-#[derive(Clone, Copy)]
-pub enum ValueAnswer {
-    Got(Value, Cursor),
-    No(Refusal),
-}
-
 // The property with the n-th word of its list, here and below.
+#[tactic(auto, unfolding(language::specs::Expr::lamp_property))]
 fn lamp_property(n: u32) -> LampReading
     ensures { result ≡ lamp_property n }
 {
-    if n == 0 {
-        return LampReading::Level;
+    match n {
+        0 => LampReading::Level,
+        1 => LampReading::Cct,
+        2 => LampReading::IsOn,
+        _ => LampReading::LastLevel,
     }
-    if n == 1 {
-        return LampReading::Cct;
-    }
-    if n == 2 {
-        return LampReading::IsOn;
-    }
-    LampReading::LastLevel
 }
 
+#[tactic(auto, unfolding(language::specs::Expr::group_property))]
 fn group_property(n: u32) -> GroupReading
     ensures { result ≡ group_property n }
 {
-    if n == 0 {
-        return GroupReading::AnyOn;
+    match n {
+        0 => GroupReading::AnyOn,
+        1 => GroupReading::AllOff,
+        _ => GroupReading::MemberCount,
     }
-    if n == 1 {
-        return GroupReading::AllOff;
-    }
-    GroupReading::MemberCount
 }
 
+#[tactic(auto, unfolding(language::specs::Expr::input_property))]
 fn input_property(n: u32) -> InputReading
     ensures { result ≡ input_property n }
 {
-    if n == 0 {
-        return InputReading::Occupied;
+    match n {
+        0 => InputReading::Occupied,
+        1 => InputReading::Light,
+        2 => InputReading::Position,
+        _ => InputReading::LastEventAge,
     }
-    if n == 1 {
-        return InputReading::Light;
-    }
-    if n == 2 {
-        return InputReading::Position;
-    }
-    InputReading::LastEventAge
 }
 
+#[tactic(auto, unfolding(language::specs::Expr::time_property))]
 fn time_property(n: u32) -> TimeReading
     ensures { result ≡ time_property n }
 {
-    if n == 0 {
-        return TimeReading::Now;
+    match n {
+        0 => TimeReading::Now,
+        1 => TimeReading::Hour,
+        2 => TimeReading::Minute,
+        _ => TimeReading::Weekday,
     }
-    if n == 1 {
-        return TimeReading::Hour;
-    }
-    if n == 2 {
-        return TimeReading::Minute;
-    }
-    TimeReading::Weekday
 }
 
+#[tactic(auto, unfolding(language::specs::Expr::sun_property))]
 fn sun_property(n: u32) -> SunReading
     ensures { result ≡ sun_property n }
 {
-    if n == 0 {
-        return SunReading::Rise;
+    match n {
+        0 => SunReading::Rise,
+        1 => SunReading::Set,
+        _ => SunReading::IsUp,
     }
-    if n == 1 {
-        return SunReading::Set;
-    }
-    SunReading::IsUp
 }
 
+#[tactic(auto, unfolding(language::specs::Expr::event_property))]
 fn event_property(n: u32) -> EventReading
     ensures { result ≡ event_property n }
 {
-    if n == 0 {
-        return EventReading::Value;
-    }
-    if n == 1 {
-        return EventReading::Device;
-    }
-    if n == 2 {
-        return EventReading::Instance;
-    }
-    EventReading::Option
-}
-
-fn lamp_reading(
-    c: Cursor,
-    text: &[u8],
-    words: &[u32],
-    s: &[u8],
-    settings: Settings,
-) -> ReadingAnswer
-    ensures { result ≡ to_reading (lamp_reading (tokens text.now words.now) (view_of settings s.now) c.index) }
-{
-    let found = refs::lamp_ref(c, text, words, s, settings);
-    match found {
-        RefAnswer::No(refusal) => return ReadingAnswer::No(refusal),
-        RefAnswer::Got(of, next) => {
-            let property = next.expect_point_choice(text, words, b"level cct is_on last_level");
-            match property {
-                Taken::No(refusal) => return ReadingAnswer::No(refusal),
-                Taken::Got(n, behind) => return ReadingAnswer::Got(
-                    Reading::Lamp(of, lamp_property(n)),
-                    behind,
-                ),
-            }
-        }
+    match n {
+        0 => EventReading::Value,
+        1 => EventReading::Device,
+        2 => EventReading::Instance,
+        _ => EventReading::Option,
     }
 }
 
-fn group_reading(
-    c: Cursor,
-    text: &[u8],
-    words: &[u32],
-    s: &[u8],
-    settings: Settings,
-) -> ReadingAnswer
-    ensures { result ≡ to_reading (group_reading (tokens text.now words.now) (view_of settings s.now) c.index) }
+#[tactic(auto, unfolding(language::specs::Expr::lamp_reading, tokens::specs::Cursor::to_taken))]
+fn lamp_reading(c: Cursor, t: &Tokens<'_>, view: &View<'_>) -> Taken<Reading>
+    ensures { result ≡ to_taken (lamp_reading (tokens t.now.text.now t.now.words.now) (view_of view.now.settings view.now.sheet.now) c.index) }
 {
-    let found = refs::group_ref(c, text, words, s, settings);
-    match found {
-        RefAnswer::No(refusal) => return ReadingAnswer::No(refusal),
-        RefAnswer::Got(of, next) => {
-            let property = next.expect_point_choice(text, words, b"any_on all_off member_count");
-            match property {
-                Taken::No(refusal) => return ReadingAnswer::No(refusal),
-                Taken::Got(n, behind) => return ReadingAnswer::Got(
-                    Reading::Group(of, group_property(n)),
-                    behind,
-                ),
-            }
-        }
-    }
+    let (of, next) = refs::lamp_ref(c, t, view)?;
+    let (n, behind) = next.expect_point_choice(t, b"level cct is_on last_level")?;
+    Ok((Reading::Lamp(of, lamp_property(n)), behind))
 }
 
-fn input_reading(
-    c: Cursor,
-    text: &[u8],
-    words: &[u32],
-    s: &[u8],
-    settings: Settings,
-) -> ReadingAnswer
-    ensures { result ≡ to_reading (input_reading (tokens text.now words.now) (view_of settings s.now) (capacity words.now) c.index) }
+#[tactic(auto, unfolding(language::specs::Expr::group_reading, tokens::specs::Cursor::to_taken))]
+fn group_reading(c: Cursor, t: &Tokens<'_>, view: &View<'_>) -> Taken<Reading>
+    ensures { result ≡ to_taken (group_reading (tokens t.now.text.now t.now.words.now) (view_of view.now.settings view.now.sheet.now) c.index) }
 {
-    let found = args::input_ref(c, text, words, s, settings);
-    match found {
-        InputAnswer::No(refusal) => return ReadingAnswer::No(refusal),
-        InputAnswer::Got(of, next) => {
-            let property = next.expect_point_choice(
-                text,
-                words,
-                b"occupied light position last_event_age",
-            );
-            match property {
-                Taken::No(refusal) => return ReadingAnswer::No(refusal),
-                Taken::Got(n, behind) => return ReadingAnswer::Got(
-                    Reading::Input(of, input_property(n)),
-                    behind,
-                ),
-            }
-        }
-    }
+    let (of, next) = refs::group_ref(c, t, view)?;
+    let (n, behind) = next.expect_point_choice(t, b"any_on all_off member_count")?;
+    Ok((Reading::Group(of, group_property(n)), behind))
 }
 
-fn time_reading(c: Cursor, text: &[u8], words: &[u32]) -> ReadingAnswer
-    ensures { result ≡ to_reading (time_reading (tokens text.now words.now) c.index) }
+#[tactic(auto, unfolding(language::specs::Expr::input_reading, tokens::specs::Cursor::to_taken))]
+fn input_reading(c: Cursor, t: &Tokens<'_>, view: &View<'_>) -> Taken<Reading>
+    ensures { result ≡ to_taken (input_reading (tokens t.now.text.now t.now.words.now) (view_of view.now.settings view.now.sheet.now) (capacity t.now.words.now) c.index) }
 {
-    let property = c.expect_point_choice(text, words, b"now hour minute weekday");
-    match property {
-        Taken::No(refusal) => return ReadingAnswer::No(refusal),
-        Taken::Got(n, behind) => return ReadingAnswer::Got(Reading::Time(time_property(n)), behind),
-    }
+    let (of, next) = args::input_ref(c, t, view)?;
+    let (n, behind) = next.expect_point_choice(t, b"occupied light position last_event_age")?;
+    Ok((Reading::Input(of, input_property(n)), behind))
 }
 
-fn sun_reading(c: Cursor, text: &[u8], words: &[u32]) -> ReadingAnswer
-    ensures { result ≡ to_reading (sun_reading (tokens text.now words.now) c.index) }
+#[tactic(auto, unfolding(language::specs::Expr::time_reading, tokens::specs::Cursor::to_taken))]
+fn time_reading(c: Cursor, t: &Tokens<'_>) -> Taken<Reading>
+    ensures { result ≡ to_taken (time_reading (tokens t.now.text.now t.now.words.now) c.index) }
 {
-    let property = c.expect_point_choice(text, words, b"rise set is_up");
-    match property {
-        Taken::No(refusal) => return ReadingAnswer::No(refusal),
-        Taken::Got(n, behind) => return ReadingAnswer::Got(Reading::Sun(sun_property(n)), behind),
-    }
+    let (n, behind) = c.expect_point_choice(t, b"now hour minute weekday")?;
+    Ok((Reading::Time(time_property(n)), behind))
+}
+
+#[tactic(auto, unfolding(language::specs::Expr::sun_reading, tokens::specs::Cursor::to_taken))]
+fn sun_reading(c: Cursor, t: &Tokens<'_>) -> Taken<Reading>
+    ensures { result ≡ to_taken (sun_reading (tokens t.now.text.now t.now.words.now) c.index) }
+{
+    let (n, behind) = c.expect_point_choice(t, b"rise set is_up")?;
+    Ok((Reading::Sun(sun_property(n)), behind))
 }
 
 // A reading of `event`, whose word stands at an index, where it may stand; else 59.
-fn event_reading(
-    word: usize,
-    c: Cursor,
-    text: &[u8],
-    words: &[u32],
-    s: &[u8],
-    settings: Settings,
-) -> ReadingAnswer
-    ensures { result ≡ to_reading (event_reading (tokens text.now words.now) (view_of settings s.now) word c.index) }
+#[tactic(auto, unfolding(language::specs::Expr::event_reading, sheet::specs::View::view_of, tokens::specs::Cursor::to_taken))]
+fn event_reading(word: usize, c: Cursor, t: &Tokens<'_>, view: &View<'_>) -> Taken<Reading>
+    ensures { result ≡ to_taken (event_reading (tokens t.now.text.now t.now.words.now) (view_of view.now.settings view.now.sheet.now) word c.index) }
 {
-    let habit = settings.habit;
-    if !profile::any_form(habit) {
-        return ReadingAnswer::No(tokens::cursor::refuse(59, word));
+    if !profile::any_form(view.settings.habit) {
+        return Err(tokens::cursor::refuse(59, word));
     }
-    let property = c.expect_point_choice(text, words, b"value device instance option");
-    match property {
-        Taken::No(refusal) => return ReadingAnswer::No(refusal),
-        Taken::Got(n, behind) => return ReadingAnswer::Got(
-            Reading::Event(event_property(n)),
-            behind,
-        ),
-    }
+    let (n, behind) = c.expect_point_choice(t, b"value device instance option")?;
+    Ok((Reading::Event(event_property(n)), behind))
 }
 
-fn var_reading(c: Cursor, text: &[u8], words: &[u32]) -> ReadingAnswer
-    ensures { result ≡ to_reading (var_reading (tokens text.now words.now) (range_of words.now) c.index) }
+#[tactic(auto, unfolding(language::specs::Expr::var_reading, tokens::specs::Cursor::to_taken))]
+fn var_reading(c: Cursor, t: &Tokens<'_>) -> Taken<Reading>
+    ensures { result ≡ to_taken (var_reading (tokens t.now.text.now t.now.words.now) (range_of t.now.words.now) c.index) }
 {
-    let name = refs::quoted_name(c, text, words);
-    match name {
-        IndexAnswer::No(refusal) => return ReadingAnswer::No(refusal),
-        IndexAnswer::Got(i, behind) => return ReadingAnswer::Got(
-            Reading::Var(name::range(words, i)),
-            behind,
-        ),
-    }
+    let (i, behind) = refs::quoted_name(c, t)?;
+    Ok((Reading::Var(name::range(t.words, i)), behind))
 }
 
 // The reading with the n-th first word, which stands at an index.
+#[tactic(auto, unfolding(language::specs::Expr::reading_by, tokens::specs::Cursor::to_taken))]
 fn reading_by(
     n: u32,
     word: usize,
     behind: Cursor,
-    text: &[u8],
-    words: &[u32],
-    s: &[u8],
-    settings: Settings,
-) -> ReadingAnswer
-    ensures { result ≡ to_reading (reading_by (tokens text.now words.now) (view_of settings s.now) (range_of words.now) (capacity words.now) word n behind.index) }
+    t: &Tokens<'_>,
+    view: &View<'_>,
+) -> Taken<Reading>
+    ensures { result ≡ to_taken (reading_by (tokens t.now.text.now t.now.words.now) (view_of view.now.settings view.now.sheet.now) (range_of t.now.words.now) (capacity t.now.words.now) word n behind.index) }
 {
+    // One match on the place of a word, as the definition has it: a table of functions would say no more.
     match n {
-        0 => return lamp_reading(behind, text, words, s, settings),
-        1 => return group_reading(behind, text, words, s, settings),
-        2 => return input_reading(behind, text, words, s, settings),
-        3 => return time_reading(behind, text, words),
-        4 => return sun_reading(behind, text, words),
-        5 => return event_reading(word, behind, text, words, s, settings),
-        _ => return var_reading(behind, text, words),
+        0 => return lamp_reading(behind, t, view),
+        1 => return group_reading(behind, t, view),
+        2 => return input_reading(behind, t, view),
+        3 => return time_reading(behind, t),
+        4 => return sun_reading(behind, t),
+        5 => return event_reading(word, behind, t, view),
+        _ => return var_reading(behind, t),
     }
 }
 
 // A reading: any word, which must begin one; else 20.
-pub fn reading(c: Cursor, text: &[u8], words: &[u32], s: &[u8], settings: Settings) -> ReadingAnswer
-    ensures { result ≡ to_reading (reading_at (tokens text.now words.now) (view_of settings s.now) (range_of words.now) (capacity words.now) c.index) }
+#[tactic(auto, unfolding(language::specs::Expr::reading_at, tokens::specs::Cursor::to_taken))]
+pub fn reading(c: Cursor, t: &Tokens<'_>, view: &View<'_>) -> Taken<Reading>
+    ensures { result ≡ to_taken (reading_at (tokens t.now.text.now t.now.words.now) (view_of view.now.settings view.now.sheet.now) (range_of t.now.words.now) (capacity t.now.words.now) c.index) }
 {
     let i = c.index;
-    let family = c.expect_choice(text, words, b"lamp group input time sun event var", 20);
-    match family {
-        Taken::No(refusal) => return ReadingAnswer::No(refusal),
-        Taken::Got(n, behind) => return reading_by(n, i, behind, text, words, s, settings),
-    }
+    let (n, behind) = c.expect_choice(t, b"lamp group input time sun event var", 20)?;
+    reading_by(n, i, behind, t, view)
 }
 
 // A number behind its sign, as a value.
-fn literal_at(c: Cursor, text: &[u8], words: &[u32], minus: bool) -> ValueAnswer
-    ensures { result ≡ to_value (literal_at (tokens text.now words.now) minus c.index) }
+#[tactic(auto, unfolding(language::specs::Expr::literal_at, tokens::specs::Cursor::to_taken))]
+fn literal_at(c: Cursor, t: &Tokens<'_>, minus: bool) -> Taken<Value>
+    ensures { result ≡ to_taken (literal_at (tokens t.now.text.now t.now.words.now) minus c.index) }
 {
-    let number = c.expect(text, words, kind::INTEGER);
-    match number {
-        Taken::No(refusal) => ValueAnswer::No(refusal),
-        Taken::Got(n, behind) => ValueAnswer::Got(
-            Value::Literal(words::signed_by(minus, n)),
-            behind,
-        ),
-    }
+    let (n, behind) = c.expect(t, kind::INTEGER)?;
+    Ok((Value::Literal(words::signed_by(minus, n)), behind))
 }
 
 // A number behind its sign, added to a reading.
-fn delta_at(c: Cursor, text: &[u8], words: &[u32], reading: Reading, minus: bool) -> ValueAnswer
-    ensures { result ≡ to_value (delta_at (tokens text.now words.now) reading minus c.index) }
+#[tactic(auto, unfolding(language::specs::Expr::delta_at, tokens::specs::Cursor::to_taken))]
+fn delta_at(c: Cursor, t: &Tokens<'_>, reading: Reading, minus: bool) -> Taken<Value>
+    ensures { result ≡ to_taken (delta_at (tokens t.now.text.now t.now.words.now) reading minus c.index) }
 {
-    let number = c.expect(text, words, kind::INTEGER);
-    match number {
-        Taken::No(refusal) => ValueAnswer::No(refusal),
-        Taken::Got(n, behind) => {
-            ValueAnswer::Got(
-                Value::Reads(reading, Delta::Is(words::signed_by(minus, n))),
-                behind,
-            )
-        }
-    }
+    let (n, behind) = c.expect(t, kind::INTEGER)?;
+    Ok((
+        Value::Reads(reading, Some(words::signed_by(minus, n))),
+        behind,
+    ))
 }
 
 // A reading, perhaps with a number added.
-fn with_delta(c: Cursor, text: &[u8], words: &[u32], reading: Reading) -> ValueAnswer
-    ensures { result ≡ to_value (with_delta (tokens text.now words.now) reading c.index) }
+#[tactic(auto, unfolding(language::specs::Expr::with_delta, tokens::specs::Cursor::to_taken, tokens::specs::Cursor::accepted))]
+fn with_delta(c: Cursor, t: &Tokens<'_>, reading: Reading) -> Taken<Value>
+    ensures { result ≡ to_taken (with_delta (tokens t.now.text.now t.now.words.now) reading c.index) }
 {
-    let plus = c.accept(text, words, kind::PLUS);
-    if let Accepted::Yes(behind) = plus {
-        return delta_at(behind, text, words, reading, false);
+    if let Some(behind) = c.accept(t, kind::PLUS) {
+        return delta_at(behind, t, reading, false);
     }
-    let minus = c.accept(text, words, kind::MINUS);
-    if let Accepted::Yes(behind) = minus {
-        return delta_at(behind, text, words, reading, true);
+    if let Some(behind) = c.accept(t, kind::MINUS) {
+        return delta_at(behind, t, reading, true);
     }
-    ValueAnswer::Got(Value::Reads(reading, Delta::Absent), c)
+    Ok((Value::Reads(reading, None), c))
 }
 
-fn read_value(c: Cursor, text: &[u8], words: &[u32], s: &[u8], settings: Settings) -> ValueAnswer
-    ensures { result ≡ to_value (read_value (tokens text.now words.now) (view_of settings s.now) (range_of words.now) (capacity words.now) c.index) }
+#[tactic(auto, unfolding(language::specs::Expr::read_value, tokens::specs::Cursor::to_taken))]
+fn read_value(c: Cursor, t: &Tokens<'_>, view: &View<'_>) -> Taken<Value>
+    ensures { result ≡ to_taken (read_value (tokens t.now.text.now t.now.words.now) (view_of view.now.settings view.now.sheet.now) (range_of t.now.words.now) (capacity t.now.words.now) c.index) }
 {
-    let reading = reading(c, text, words, s, settings);
-    match reading {
-        ReadingAnswer::No(refusal) => ValueAnswer::No(refusal),
-        ReadingAnswer::Got(reading, behind) => with_delta(behind, text, words, reading),
-    }
+    let (reading, behind) = reading(c, t, view)?;
+    with_delta(behind, t, reading)
 }
 
 // VALUE: an integer with perhaps one sign, or a reading with perhaps + or - an integer.
-pub fn value_expr(
-    c: Cursor,
-    text: &[u8],
-    words: &[u32],
-    s: &[u8],
-    settings: Settings,
-) -> ValueAnswer
-    ensures { result ≡ to_value (value_at (tokens text.now words.now) (view_of settings s.now) (range_of words.now) (capacity words.now) c.index) }
+#[tactic(auto, unfolding(language::specs::Expr::value_at, tokens::specs::Cursor::to_taken, tokens::specs::Cursor::accepted))]
+pub fn value_expr(c: Cursor, t: &Tokens<'_>, view: &View<'_>) -> Taken<Value>
+    ensures { result ≡ to_taken (value_at (tokens t.now.text.now t.now.words.now) (view_of view.now.settings view.now.sheet.now) (range_of t.now.words.now) (capacity t.now.words.now) c.index) }
 {
-    let plus = c.accept(text, words, kind::PLUS);
-    if let Accepted::Yes(behind) = plus {
-        return literal_at(behind, text, words, false);
+    if let Some(behind) = c.accept(t, kind::PLUS) {
+        return literal_at(behind, t, false);
     }
-    let minus = c.accept(text, words, kind::MINUS);
-    if let Accepted::Yes(behind) = minus {
-        return literal_at(behind, text, words, true);
+    if let Some(behind) = c.accept(t, kind::MINUS) {
+        return literal_at(behind, t, true);
     }
-    if c.peek_is(text, words, kind::INTEGER) {
-        return literal_at(c, text, words, false);
+    if c.peek_is(t, kind::INTEGER) {
+        return literal_at(c, t, false);
     }
-    read_value(c, text, words, s, settings)
+    read_value(c, t, view)
 }

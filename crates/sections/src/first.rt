@@ -9,7 +9,7 @@ ghost use Rattle.language.specs.Trigger.{trigger_words};
 ghost use Rattle.language.specs.Condition.{condition_words};
 ghost use Rattle.sections.specs.First.{first_words, place_from};
 
-use tokens::cursor::{Cursor, Taken};
+use tokens::cursor::{Cursor, Taken, Tokens};
 use tokens::kind;
 
 // How many there are, of triggers as of conditions.
@@ -133,43 +133,32 @@ fn condition_place_from_nine(w: &[u8]) -> u32
 }
 
 // The answer for the word at the token i, by its place: one that has none is refused with 21.
-fn placed(n: u32, i: usize, behind: Cursor) -> Taken
+#[tactic(auto, unfolding(text::specs::Choice::pick, tokens::specs::Cursor::to_taken))]
+fn placed(n: u32, i: usize, behind: Cursor) -> Taken<u32>
     ensures { result ≡ to_taken (pick (ltb n first_words) (ok n behind.index) (refuse 21 i)) }
 {
     if n < FIRST_WORDS {
-        return Taken::Got(n, behind);
+        return Ok((n, behind));
     }
-    Taken::No(tokens::cursor::refuse(21, i))
+    Err(tokens::cursor::refuse(21, i))
 }
 
 // The place of a trigger's first word: no word is refused with 20, another with 21.
-pub fn trigger_word(c: Cursor, text: &[u8], words: &[u32]) -> Taken
-    ensures { result ≡ to_taken (choice_at (tokens text.now words.now) trigger_words 21 c.index) }
+#[tactic(auto, unfolding(tokens::specs::Phrase::choice_at, tokens::specs::Cursor::to_taken))]
+pub fn trigger_word(c: Cursor, t: &Tokens<'_>) -> Taken<u32>
+    ensures { result ≡ to_taken (choice_at (tokens t.now.text.now t.now.words.now) trigger_words 21 c.index) }
 {
     let i = c.index;
-    let word = c.expect(text, words, kind::WORD);
-    match word {
-        Taken::No(refusal) => Taken::No(refusal),
-        Taken::Got(_, behind) => placed(
-            trigger_place(tokens::cursor::bytes(text, words, i)),
-            i,
-            behind,
-        ),
-    }
+    let (_, behind) = c.expect(t, kind::WORD)?;
+    placed(trigger_place(t.bytes(i)), i, behind)
 }
 
 // The place of a condition's first word, likewise.
-pub fn condition_word(c: Cursor, text: &[u8], words: &[u32]) -> Taken
-    ensures { result ≡ to_taken (choice_at (tokens text.now words.now) condition_words 21 c.index) }
+#[tactic(auto, unfolding(tokens::specs::Phrase::choice_at, tokens::specs::Cursor::to_taken))]
+pub fn condition_word(c: Cursor, t: &Tokens<'_>) -> Taken<u32>
+    ensures { result ≡ to_taken (choice_at (tokens t.now.text.now t.now.words.now) condition_words 21 c.index) }
 {
     let i = c.index;
-    let word = c.expect(text, words, kind::WORD);
-    match word {
-        Taken::No(refusal) => Taken::No(refusal),
-        Taken::Got(_, behind) => placed(
-            condition_place(tokens::cursor::bytes(text, words, i)),
-            i,
-            behind,
-        ),
-    }
+    let (_, behind) = c.expect(t, kind::WORD)?;
+    placed(condition_place(t.bytes(i)), i, behind)
 }

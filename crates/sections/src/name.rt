@@ -5,6 +5,7 @@ ghost use Rattle.language.specs.Range.{range_of};
 use model::Name;
 
 // The range of the token i.
+#[tactic(auto, unfolding(language::specs::Range::range_of))]
 pub fn range(words: &[u32], i: usize) -> Name
     ensures { result ≡ range_of words.now i }
 {

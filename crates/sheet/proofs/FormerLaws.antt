@@ -6,17 +6,18 @@ use mathlib.Core.List.{List, [], ◌∷◌}
 use Prim.Native.Nat.{ℕ, zero, suc, ◌+◌}
 use lib.ListN.{length, drop}
 use lib.Dec.{ltb, leb, eqb}
+use Rattle.std.specs.Prelude.{Option, Some, None, option_and_then}
 use Rattle.text.specs.Find.{index_of}
 use Rattle.text.specs.Choice.{pick, within}
 use Rattle.text.specs.Literal.{ascii}
 use Rattle.text.specs.Part.{same_bytes}
 use Rattle.model.specs.Limits.{last_adapter, longest_name}
-use Rattle.sheet.specs.Kind.{no_kind, kind_of, most_of}
+use Rattle.sheet.specs.Kind.{kind_of, most_of}
 use Rattle.sheet.specs.Line.{field, rest, has_comma, numeral, is_mark, plain, is_name, checked_row, read_row, primary_of, adapter_of, party_of, line_by, bare_line, bare_name, line_of, name_of}
 use Rattle.sheet.specs.Sheet.{lines, is_owner_of, has_owner, may_follow, last_line, Sheet, well_formed, bad_line_rule, following_check, is_primary, lines_check, longest_sheet, sheet_check, Entry, entry_by, entries, is_listing, lists, primary_by, primary_line}
 use Rattle.sheet.specs.Party.{owner_by, owner_of}
 use Rattle.sheet.specs.declared.line.Line.{Line}
-use Rattle.sheet.specs.declared.line.Line.TheVariants.{Primary, Adapter, Party, Row, Bad}
+use Rattle.sheet.specs.declared.line.Line.TheVariants.{Primary, Adapter, Party, Row}
 use Rattle.sheet.proofs.ReturnLaws.{holds, neither, return_free}
 
 -- ---- the former line
@@ -31,25 +32,27 @@ former_plain (c ∷ l) = pick (former_mark c) false (former_plain l)
 unfoldable pub former_is_name : List ℕ → Bool
 former_is_name l = pick (within 1 longest_name (length l)) (former_plain l) false
 
-unfoldable pub former_checked_row : ℕ → ℕ → ℕ → List ℕ → Line
+unfoldable pub former_checked_row : ℕ → ℕ → ℕ → List ℕ → Option Line
 former_checked_row kind adapter number name =
-    pick (leb adapter last_adapter) (pick (leb number (most_of kind)) (pick (former_is_name name) (Row kind adapter number) Bad) Bad) Bad
+    pick (leb adapter last_adapter) (pick (leb number (most_of kind)) (pick (former_is_name name) (Some (Row kind adapter number)) None) None) None
 
-unfoldable pub former_read_row : ℕ → List ℕ → Line
+unfoldable pub former_read_row : ℕ → List ℕ → Option Line
 former_read_row kind l =
     pick (has_comma l)
-    (pick (has_comma (rest l)) (former_checked_row kind (numeral (field l)) (numeral (field (rest l))) (rest (rest l))) Bad)
-    Bad
+    (pick (has_comma (rest l))
+    (option_and_then (λ a. option_and_then (λ n. former_checked_row kind a n (rest (rest l))) (numeral (field (rest l)))) (numeral (field l)))
+    None)
+    None
 
-unfoldable pub former_line_by : List ℕ → List ℕ → Line
+unfoldable pub former_line_by : List ℕ → List ℕ → Option Line
 former_line_by w l =
-    pick (same_bytes w (ascii "primary")) (primary_of (numeral l))
-    (pick (same_bytes w (ascii "adapter")) (adapter_of (numeral l))
+    pick (same_bytes w (ascii "primary")) (option_and_then primary_of (numeral l))
+    (pick (same_bytes w (ascii "adapter")) (option_and_then adapter_of (numeral l))
     (pick (same_bytes w (ascii "party")) (party_of l)
-    (pick (eqb (kind_of w) no_kind) Bad (former_read_row (kind_of w) l))))
+    (option_and_then (λ kind. former_read_row kind l) (kind_of w))))
 
-unfoldable pub former_line_of : List ℕ → Line
-former_line_of l = pick (has_comma l) (former_line_by (field l) (rest l)) Bad
+unfoldable pub former_line_of : List ℕ → Option Line
+former_line_of l = pick (has_comma l) (former_line_by (field l) (rest l)) None
 
 unfoldable pub former_name_of : List ℕ → List ℕ
 former_name_of l = rest (rest (rest l))
@@ -109,12 +112,12 @@ unfoldable pub former_has_owner : ℕ → List (List ℕ) → Bool
 former_has_owner a [] = false
 former_has_owner a (l ∷ ls) = pick (is_owner_of a (former_line_of l)) true (former_has_owner a ls)
 
-unfoldable pub former_may_follow : List (List ℕ) → Line → Bool
-former_may_follow earlier (Primary a) = false
-former_may_follow earlier (Adapter a) = true
-former_may_follow earlier (Party a party) = not (former_has_owner a earlier)
-former_may_follow earlier (Row kind adapter number) = true
-former_may_follow earlier Bad = false
+unfoldable pub former_may_follow : List (List ℕ) → Option Line → Bool
+former_may_follow earlier (Some (Primary a)) = false
+former_may_follow earlier (Some (Adapter a)) = true
+former_may_follow earlier (Some (Party a party)) = not (former_has_owner a earlier)
+former_may_follow earlier (Some (Row kind adapter number)) = true
+former_may_follow earlier None = false
 
 unfoldable pub former_following_check : ℕ → List (List ℕ) → List (List ℕ) → Sheet
 former_following_check n earlier [] = well_formed
@@ -150,13 +153,13 @@ unfolding has_owner former_has_owner
 same-has a none = refl
 same-has a (one p ps) = rw (same_line p, same-has a ps)
 
-same_follow : {earlier : List (List ℕ)} → PlainLines earlier → (l : Line) → may_follow earlier l ≡ former_may_follow earlier l
+same_follow : {earlier : List (List ℕ)} → PlainLines earlier → (l : Option Line) → may_follow earlier l ≡ former_may_follow earlier l
 unfolding may_follow former_may_follow
-same_follow ps (Primary a) = refl
-same_follow ps (Adapter a) = refl
-same_follow ps (Party a party) = rw (same-has a ps)
-same_follow ps (Row kind adapter number) = refl
-same_follow ps Bad = refl
+same_follow ps (Some (Primary a)) = refl
+same_follow ps (Some (Adapter a)) = refl
+same_follow ps (Some (Party a party)) = rw (same-has a ps)
+same_follow ps (Some (Row kind adapter number)) = refl
+same_follow ps None = refl
 
 same-following : (n : ℕ) {earlier ls : List (List ℕ)} → PlainLines earlier → PlainLines ls →
     following_check n earlier ls ≡ former_following_check n earlier ls

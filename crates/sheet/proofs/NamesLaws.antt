@@ -5,17 +5,19 @@ use mathlib.Core.Path.{◌≡◌, ◌∙◌, refl, sym}
 use mathlib.Core.Bool.{Bool, true, false}
 use mathlib.Core.List.{List, [], ◌∷◌}
 use lib.ListN.{length, drop, get_or}
+use Rattle.std.specs.Prelude.{Option, Some, None, Result}
 use Rattle.text.specs.Choice.{pick}
 use Rattle.text.specs.Part.{part_of}
 use Rattle.text.proofs.SplitLaws.{split-none, part-read}
 use Rattle.text.proofs.Tests.{steps}
+use Rattle.model.specs.declared.Ref.{Ref}
 use Rattle.sheet.specs.Line.{line_of, name_of}
 use Rattle.sheet.specs.Sheet.{lines, line_end, Entry, entries, entry_by}
 use Rattle.sheet.specs.Party.{entries_on}
 use Rattle.sheet.specs.Names.{is_for, is_for_line, names_for, is_found}
 use Rattle.sheet.specs.declared.line.Line.{Line}
-use Rattle.sheet.specs.declared.line.Line.TheVariants.{Primary, Adapter, Party, Row, Bad}
-use Rattle.sheet.specs.declared.resolve.Found.{Found}
+use Rattle.sheet.specs.declared.line.Line.TheVariants.{Primary, Adapter, Party, Row}
+use Rattle.sheet.specs.declared.resolve.Unfound.{Unfound}
 use Rattle.sheet.specs.declared.names.Numbered.{Numbered}
 use Rattle.sheet.proofs.ResolveLaws.{not-told-no, not-told-yes}
 
@@ -27,16 +29,16 @@ unfolding names_for
 names-there of e es true = refl
 names-there of e es false = refl
 
-names-entry : (own : ℕ → Bool) (of : Numbered) (written : List ℕ) (es : List Entry) (l : Line) →
+names-entry : (own : ℕ → Bool) (of : Numbered) (written : List ℕ) (es : List Entry) (l : Option Line) →
     names_for of (entries_on own (entry_by l written es))
     ≡ pick (is_for_line own of l) (written ∷ names_for of (entries_on own es)) (names_for of (entries_on own es))
 unfolding entries_on is_for_line
-names-entry own of written es (Row k adapter number) =
+names-entry own of written es (Some (Row k adapter number)) =
     names-there of (record { kind = k; adapter = adapter; number = number; name = written }) (entries_on own es) (own adapter)
-names-entry own of written es (Primary a) = refl
-names-entry own of written es (Adapter a) = refl
-names-entry own of written es (Party a party) = refl
-names-entry own of written es Bad = refl
+names-entry own of written es (Some (Primary a)) = refl
+names-entry own of written es (Some (Adapter a)) = refl
+names-entry own of written es (Some (Party a party)) = refl
+names-entry own of written es None = refl
 
 -- the names of a sheet whose first line is l
 pub names-line : (own : ℕ → Bool) (of : Numbered) (l : List ℕ) (ls : List (List ℕ)) →
@@ -81,17 +83,12 @@ module _ (own : ℕ → Bool) (of : Numbered) (s : List ℕ) (at left : ℕ) {x 
       pub names-on : (left ≡ 0 → ⊥) → {n : ℕ} → n ≡ left - 1 → get_or (names_from own of s (end + 1)) n [] ≡ x
       names-on z k = rw k (sym (later_of (name_of l) (names_from own of s (end + 1)) left z) ∙ at_row)
 
--- a line that the code takes apart: a callee answered a, which was v
-pub for_line : (own : ℕ → Bool) (of : Numbered) (l : List ℕ) {a v : Line} {x : Bool} → a ≡ line_of l → a ≡ v → x ≡ is_for_line own of v →
-    x ≡ is_for_line own of (line_of l)
-for_line own of l asked was h = rw (sym asked ∙ was) h
-
 -- what a name picks, taken apart, or handed on by a callee
-pub found_as : (of : Numbered) (found : Found) {v : Found} {x : Bool} → found ≡ v → x ≡ is_found of v → x ≡ is_found of found
+pub found_as : (of : Numbered) (found : Result Ref Unfound) {v : Result Ref Unfound} {x : Bool} → found ≡ v → x ≡ is_found of v → x ≡ is_found of found
 found_as of found was h = rw was h
 
-pub found-told : (of : Numbered) (asked : Found) {found : Found} {r : Bool} → found ≡ asked → r ≡ is_found of found → r ≡ is_found of asked
+pub found-told : (of : Numbered) (asked : Result Ref Unfound) {found : Result Ref Unfound} {r : Bool} → found ≡ asked → r ≡ is_found of found → r ≡ is_found of asked
 found-told of asked e h = rw (sym e) h
 
 -- closes what is left of a function that looks for names
-pub ruleset naming = (for_line, found_as, found-told, not-told-no, not-told-yes, steps)
+pub ruleset naming = (found_as, found-told, not-told-no, not-told-yes, steps)

@@ -6,6 +6,7 @@ use mathlib.Core.Bool.{Bool, true, false, false≢true}
 use mathlib.Core.List.{List, [], ◌∷◌}
 use lib.Dec.{eqb}
 use borrow.Author.Tests.{eqb-true, eq-eqb, ne_eqb}
+use Rattle.std.specs.Prelude.{Option, Some, None}
 use Rattle.text.specs.Choice.{pick}
 use Rattle.text.proofs.Tests.{pick_same}
 use Rattle.model.specs.Limits.{last_adapter}
@@ -16,7 +17,7 @@ use Rattle.sheet.specs.View.{may_repeat, any_form, seen, own_primary}
 use Rattle.sheet.specs.declared.Habit.{Habit}
 use Rattle.sheet.specs.declared.Call.{Call}
 use Rattle.sheet.specs.declared.line.Line.{Line}
-use Rattle.sheet.specs.declared.line.Line.TheVariants.{Primary, Adapter, Party, Row, Bad}
+use Rattle.sheet.specs.declared.line.Line.TheVariants.{Primary, Adapter, Party, Row}
 use Rattle.sheet.proofs.RangeLaws.{LineInRange, line_in}
 use Rattle.sheet.proofs.ReturnLaws.{use-pick}
 use Rattle.sheet.proofs.SkipLaws.{by_order}
@@ -42,14 +43,14 @@ listed-on false y true rest e h = rw (sym (e refl)) h
 
 -- they are all that is seen of a sheet
 module _ (own : ℕ → Bool) where
-  named-line : (l : Line) (name : List ℕ) (es : List Entry) (rows : List OwnRow) → entries_on own es ≡ named rows →
+  named-line : (l : Option Line) (name : List ℕ) (es : List Entry) (rows : List OwnRow) → entries_on own es ≡ named rows →
       entries_on own (entry_by l name es) ≡ named (own_row_by own l name rows)
   unfolding entries_on
-  named-line (Primary a) name es rows h = h
-  named-line (Adapter a) name es rows h = h ∙ sym (use-pick named (own a) (adapter_row a ∷ rows) rows ∙ pick_same (own a) _)
-  named-line (Party a party) name es rows h = h
-  named-line (Row kind adapter number) name es rows h = rw h (sym (use-pick named (own adapter) _ rows))
-  named-line Bad name es rows h = h
+  named-line (Some (Primary a)) name es rows h = h
+  named-line (Some (Adapter a)) name es rows h = h ∙ sym (use-pick named (own a) (adapter_row a ∷ rows) rows ∙ pick_same (own a) _)
+  named-line (Some (Party a party)) name es rows h = h
+  named-line (Some (Row kind adapter number)) name es rows h = rw h (sym (use-pick named (own adapter) _ rows))
+  named-line None name es rows h = h
 
   named-own : (ls : List (List ℕ)) → entries_on own (entries ls) ≡ named (own_rows own ls)
   unfolding entries entries_on own_rows
@@ -57,16 +58,16 @@ module _ (own : ℕ → Bool) where
   named-own (l ∷ ls) = named-line (line_of l) (name_of l) (entries ls) (own_rows own ls) (named-own ls)
 
   module _ (a : ℕ) where
-    listing-line : (l : Line) (name : List ℕ) (rest : Bool) (rows : List OwnRow) → pick (own a) rest false ≡ listing a rows →
+    listing-line : (l : Option Line) (name : List ℕ) (rest : Bool) (rows : List OwnRow) → pick (own a) rest false ≡ listing a rows →
         pick (own a) (pick (is_listing a l) true rest) false ≡ listing a (own_row_by own l name rows)
     unfolding is_listing
-    listing-line (Primary b) name rest rows h = h
-    listing-line (Adapter b) name rest rows h =
+    listing-line (Some (Primary b)) name rest rows h = h
+    listing-line (Some (Adapter b)) name rest rows h =
         listed-on (own a) (own b) (eqb b a) rest (λ e. ap own (sym (eqb-true b a e))) h
         ∙ sym (use-pick (listing a) (own b) (adapter_row b ∷ rows) rows)
-    listing-line (Party b party) name rest rows h = h
-    listing-line (Row kind b number) name rest rows h = h ∙ sym (use-pick (listing a) (own b) _ rows ∙ pick_same (own b) _)
-    listing-line Bad name rest rows h = h
+    listing-line (Some (Party b party)) name rest rows h = h
+    listing-line (Some (Row kind b number)) name rest rows h = h ∙ sym (use-pick (listing a) (own b) _ rows ∙ pick_same (own b) _)
+    listing-line None name rest rows h = h
 
     listing-own : (ls : List (List ℕ)) → pick (own a) (lists a ls) false ≡ listing a (own_rows own ls)
     unfolding lists own_rows
@@ -86,13 +87,13 @@ agree-seen call {s} {t} agree =
 
 -- an adapter above the last is nobody's but party 0's
 module _ (a : ℕ) (beyond : last_adapter < a) where
-  owner_by_beyond : (l : Line) (other : ℕ) → LineInRange l → owner_by a l other ≡ other
+  owner_by_beyond : (l : Option Line) (other : ℕ) → LineInRange l → owner_by a l other ≡ other
   unfolding owner_by LineInRange
-  owner_by_beyond (Primary b) other r = refl
-  owner_by_beyond (Adapter b) other r = refl
-  owner_by_beyond (Party b party) other r = rw (ne_eqb b a (λ e. omega arith))
-  owner_by_beyond (Row kind adapter number) other r = refl
-  owner_by_beyond Bad other r = refl
+  owner_by_beyond (Some (Primary b)) other r = refl
+  owner_by_beyond (Some (Adapter b)) other r = refl
+  owner_by_beyond (Some (Party b party)) other r = rw (ne_eqb b a (λ e. omega arith))
+  owner_by_beyond (Some (Row kind adapter number)) other r = refl
+  owner_by_beyond None other r = refl
 
   owner_beyond : (ls : List (List ℕ)) → owner_of a ls ≡ 0
   unfolding owner_of
@@ -117,13 +118,13 @@ neither false h = (refl, h)
 
 -- without a party row every adapter is party 0's
 module _ (a : ℕ) where
-  owner_by-none : (l : Line) (other : ℕ) → is_owner_of a l ≡ false → owner_by a l other ≡ other
+  owner_by-none : (l : Option Line) (other : ℕ) → is_owner_of a l ≡ false → owner_by a l other ≡ other
   unfolding owner_by is_owner_of
-  owner_by-none (Primary b) other h = refl
-  owner_by-none (Adapter b) other h = refl
-  owner_by-none (Party b party) other h = rw h
-  owner_by-none (Row kind adapter number) other h = refl
-  owner_by-none Bad other h = refl
+  owner_by-none (Some (Primary b)) other h = refl
+  owner_by-none (Some (Adapter b)) other h = refl
+  owner_by-none (Some (Party b party)) other h = rw h
+  owner_by-none (Some (Row kind adapter number)) other h = refl
+  owner_by-none None other h = refl
 
   owner-none : (ls : List (List ℕ)) → has_owner a ls ≡ false → owner_of a ls ≡ 0
   unfolding owner_of has_owner

@@ -4,32 +4,34 @@ use native.Mathlib.Omega.{arith}
 use mathlib.Core.Path.{subst}
 use mathlib.Core.Bool.{Bool}
 use mathlib.Core.List.{List, [], ◌∷◌}
-use lib.Dec.{leb, eqb}
+use lib.Dec.{leb}
 use borrow.Author.Tests.{leb-true}
+use Rattle.std.specs.Prelude.{Option, Some, None}
 use Rattle.text.specs.Part.{same_bytes}
 use Rattle.text.specs.Literal.{ascii}
 use Rattle.text.proofs.Tests.{picked}
 use Rattle.model.specs.Limits.{last_adapter, last_party}
-use Rattle.sheet.specs.Kind.{no_kind, kind_of, most_of}
-use Rattle.sheet.specs.Line.{without_return, field, rest, has_comma, is_name, checked_row, read_row, primary_of, adapter_of, party_by, party_of, line_by, bare_line, line_of, name_of}
+use Rattle.sheet.specs.Kind.{kind_of, most_of}
+use Rattle.sheet.specs.Line.{without_return, field, rest, has_comma, numeral, is_name, checked_row, read_row, primary_of, adapter_of, party_by, party_of, line_by, bare_line, line_of, name_of}
 use Rattle.sheet.specs.Sheet.{Entry, lines, entry_by, entries, primary_by, primary_line}
 use Rattle.sheet.specs.Party.{entries_on}
 use Rattle.sheet.specs.View.{View, seen}
 use Rattle.sheet.specs.declared.Call.{Call}
 use Rattle.sheet.specs.Picks.{Picks, past, here}
 use Rattle.sheet.specs.declared.line.Line.{Line}
-use Rattle.sheet.specs.declared.line.Line.TheVariants.{Primary, Adapter, Party, Row, Bad}
+use Rattle.sheet.specs.declared.line.Line.TheVariants.{Primary, Adapter, Party, Row}
 use Rattle.sheet.specs.declared.resolve.Scope.{Scope}
+use Rattle.sheet.proofs.LineLaws.{given}
 
 -- a line with its adapter and its number in range
-unfoldable pub LineInRange : Line → Type 0
-LineInRange (Primary a) = a ≤ last_adapter
-LineInRange (Adapter a) = a ≤ last_adapter
-LineInRange (Party a party) = a ≤ last_adapter
-LineInRange (Row kind a n) = (a ≤ last_adapter) × (n ≤ most_of kind)
-LineInRange Bad = Unit {0}
+unfoldable pub LineInRange : Option Line → Type 0
+LineInRange (Some (Primary a)) = a ≤ last_adapter
+LineInRange (Some (Adapter a)) = a ≤ last_adapter
+LineInRange (Some (Party a party)) = a ≤ last_adapter
+LineInRange (Some (Row kind a n)) = (a ≤ last_adapter) × (n ≤ most_of kind)
+LineInRange None = Unit {0}
 
-bad : LineInRange Bad
+bad : LineInRange None
 unfolding LineInRange
 bad = tt
 
@@ -50,7 +52,9 @@ party_by_in a party =
 
 party_in : (l : List ℕ) → LineInRange (party_of l)
 unfolding party_of
-party_in l = picked LineInRange (has_comma l) (λ e. party_by_in _ _) (λ e. bad)
+party_in l = picked LineInRange (has_comma l)
+    (λ e. given LineInRange _ (numeral (field l)) bad (λ a _. given LineInRange _ (numeral (rest l)) bad (λ p _. party_by_in a p)))
+    (λ e. bad)
 
 checked_in : (kind a n : ℕ) (name : List ℕ) → LineInRange (checked_row kind a n name)
 unfolding checked_row LineInRange
@@ -66,18 +70,18 @@ row_in : (kind : ℕ) (l : List ℕ) → LineInRange (read_row kind l)
 unfolding read_row
 row_in kind l =
     picked LineInRange (has_comma l)
-    (λ e. picked LineInRange (has_comma (rest l)) (λ f. checked_in kind _ _ _) (λ f. bad))
+    (λ e. picked LineInRange (has_comma (rest l)) (λ f. given LineInRange _ (numeral (field l)) bad (λ a _. given LineInRange _ (numeral (field (rest l))) bad (λ n _. checked_in kind a n _))) (λ f. bad))
     (λ e. bad)
 
 by_in : (w l : List ℕ) → LineInRange (line_by w l)
 unfolding line_by
 by_in w l =
-    picked LineInRange (same_bytes w (ascii "primary")) (λ e. primary_in _)
+    picked LineInRange (same_bytes w (ascii "primary")) (λ e. given LineInRange _ (numeral l) bad (λ a _. primary_in a))
     (λ e.
-    picked LineInRange (same_bytes w (ascii "adapter")) (λ f. adapter_in _)
+    picked LineInRange (same_bytes w (ascii "adapter")) (λ f. given LineInRange _ (numeral l) bad (λ a _. adapter_in a))
     (λ f.
     picked LineInRange (same_bytes w (ascii "party")) (λ g. party_in l)
-    (λ g. picked LineInRange (eqb (kind_of w) no_kind) (λ h. bad) (λ h. row_in (kind_of w) l))))
+    (λ g. given LineInRange _ (kind_of w) bad (λ kind _. row_in kind l))))
 
 bare_in : (l : List ℕ) → LineInRange (bare_line l)
 unfolding bare_line
@@ -92,13 +96,13 @@ pub data RowsInRange : List Entry → Type 0 where
   no_row : RowsInRange []
   a_row : {e : Entry} {es : List Entry} → e.adapter ≤ last_adapter → e.number ≤ most_of e.kind → RowsInRange es → RowsInRange (e ∷ es)
 
-entry_in : (l : Line) (name : List ℕ) (es : List Entry) → LineInRange l → RowsInRange es → RowsInRange (entry_by l name es)
+entry_in : (l : Option Line) (name : List ℕ) (es : List Entry) → LineInRange l → RowsInRange es → RowsInRange (entry_by l name es)
 unfolding LineInRange
-entry_in (Primary a) name es h g = g
-entry_in (Adapter a) name es h g = g
-entry_in (Party a party) name es h g = g
-entry_in (Row kind a n) name es h g = a_row h.0 h.1 g
-entry_in Bad name es h g = g
+entry_in (Some (Primary a)) name es h g = g
+entry_in (Some (Adapter a)) name es h g = g
+entry_in (Some (Party a party)) name es h g = g
+entry_in (Some (Row kind a n)) name es h g = a_row h.0 h.1 g
+entry_in None name es h g = g
 
 pub rows_in : (ls : List (List ℕ)) → RowsInRange (entries ls)
 unfolding entries
@@ -111,13 +115,13 @@ rows_on_in own no_row = no_row
 rows_on_in own (a_row {e} a n h) =
     picked RowsInRange (own e.adapter) (λ _. a_row a n (rows_on_in own h)) (λ _. rows_on_in own h)
 
-by_primary_lem : (l : Line) → LineInRange l → primary_by l ≤ last_adapter
+by_primary_lem : (l : Option Line) → LineInRange l → primary_by l ≤ last_adapter
 unfolding LineInRange
-by_primary_lem (Primary a) h = h
-by_primary_lem (Adapter a) h = omega arith
-by_primary_lem (Party a party) h = omega arith
-by_primary_lem (Row kind a n) h = omega arith
-by_primary_lem Bad h = omega arith
+by_primary_lem (Some (Primary a)) h = h
+by_primary_lem (Some (Adapter a)) h = omega arith
+by_primary_lem (Some (Party a party)) h = omega arith
+by_primary_lem (Some (Row kind a n)) h = omega arith
+by_primary_lem None h = omega arith
 
 -- the sheet's own primary adapter, too
 pub primary_line_in : (ls : List (List ℕ)) → primary_line ls ≤ last_adapter

@@ -8,25 +8,26 @@ use mathlib.Core.List.{List, [], ◌∷◌, ◌++◌, append-nil, append_assoc}
 use lib.ListN.{length, drop, length-append}
 use lib.Dec.{ltb, eqb}
 use borrow.Author.Tests.{ltb-false, eq-eqb, ne_eqb, eqb-true, not-true, not-false}
+use Rattle.std.specs.Prelude.{Option, Some, Ok}
 use Rattle.text.specs.Choice.{pick}
 use Rattle.text.specs.Part.{part_of, same_bytes}
 use Rattle.text.specs.Place.{counted}
-use Rattle.text.proofs.PlaceRules.{count_on}
-use Rattle.text.proofs.Tests.{picked, pick_same, both, told-yes, told-no, steps}
+use Rattle.text.proofs.Tests.{picked, pick_same, both, told-yes, told-no}
 use Rattle.text.proofs.PartLaws.{same_refl, same-eq}
 use Rattle.text.proofs.PlaceRules.{count_on}
+use Rattle.model.specs.declared.Ref.{Ref}
 use Rattle.sheet.specs.Line.{line_of, name_of}
 use Rattle.sheet.specs.Sheet.{lines, line_end, Entry, entries, entry_by}
 use Rattle.sheet.specs.Party.{entries_on}
 use Rattle.sheet.specs.Resolve.{is_candidate, candidates, is_in, in_scope, elsewhere, none_of, chosen, pick_named}
-use Rattle.sheet.specs.Tally.{scoped_tally, other_tally, tallied, tally, line_tally_by, line_tally, no_tally, found_by}
+use Rattle.sheet.specs.Tally.{scoped_on, first_on, tallied, tally, line_tally_by, line_tally, no_tally, found_by}
 use Rattle.sheet.specs.Picks.{InScope, None, none, none_past, Picks, past, here}
 use Rattle.text.proofs.SplitLaws.{split-on, split-none}
 use Rattle.sheet.specs.declared.line.Line.{Line}
-use Rattle.sheet.specs.declared.line.Line.TheVariants.{Primary, Adapter, Party, Row, Bad}
+use Rattle.sheet.specs.declared.line.Line.TheVariants.{Primary, Adapter, Party, Row}
 use Rattle.sheet.specs.declared.resolve.Scope.{Scope}
 use Rattle.sheet.specs.declared.resolve.Scope.TheVariants.{Any, On}
-use Rattle.sheet.specs.declared.resolve.Found.TheVariants.{One}
+use Rattle.sheet.specs.declared.resolve.Scoped.{Scoped}
 use Rattle.sheet.specs.declared.resolve.Tally.{Tally}
 
 -- a count that stops at the greatest number tells none, one and more apart
@@ -37,43 +38,28 @@ count_is n k l =
     (λ e. refl)
     (λ e. rw (ne_eqb 4294967295 k (omega arith), ne_eqb n k (omega (arith, ltb-false))))
 
--- of a list of rows: whether there is one, the first's adapter and number, and whether another is on another adapter
-abbrev some : List Entry → Bool
-some [] = false
-some (e ∷ es) = true
+one_counted : counted 1 ≡ 1
+unfolding counted
+one_counted = refl
 
-abbrev first_adapter : List Entry → ℕ
-first_adapter [] = 0
-first_adapter (e ∷ es) = e.adapter
+-- of a list of rows: the first's adapter; and what is known of such rows in scope
+abbrev first_of : List Entry → Option ℕ
+first_of [] = Option.None
+first_of (e ∷ es) = Some e.adapter
 
-abbrev first_number : List Entry → ℕ
-first_number [] = 0
-first_number (e ∷ es) = e.number
-
-abbrev spanning : List Entry → Bool
-spanning [] = false
-spanning (e ∷ es) = elsewhere e.adapter es
+abbrev scoped_of : List Entry → Option Scoped
+scoped_of [] = Option.None
+scoped_of (e ∷ es) =
+    Some (record { row = record { adapter = e.adapter; number = e.number }; count = counted (suc (length es)); spans = elsewhere e.adapter es })
 
 -- what a tally knows of the candidates that were seen, and of those of them in scope
 abbrev seen : List Entry → List Entry → Tally
-seen all ins =
-    record {
-      known = some all;
-      first = first_adapter all;
-      count = counted (length ins);
-      adapter = first_adapter ins;
-      number = first_number ins;
-      spans = spanning ins;
-    }
+seen all ins = record { first = first_of all; scoped = scoped_of ins }
 
 -- one candidate more
-some-on : (all : List Entry) (e : Entry) → some (all ++ e ∷ []) ≡ true
-some-on [] e = refl
-some-on (f ∷ all) e = refl
-
-first_on : (all : List Entry) (e : Entry) → pick (some all) (first_adapter all) e.adapter ≡ first_adapter (all ++ e ∷ [])
-first_on [] e = refl
-first_on (f ∷ all) e = refl
+first-seen : (all : List Entry) (e : Entry) → first_on (first_of all) e.adapter ≡ first_of (all ++ e ∷ [])
+first-seen [] e = refl
+first-seen (f ∷ all) e = refl
 
 swap : (x y z : Bool) → pick x (pick y z true) true ≡ pick y (pick x z true) true
 swap true y z = refl
@@ -85,31 +71,29 @@ unfolding elsewhere
 elsewhere-on a [] e = refl
 elsewhere-on a (f ∷ es) e = rw (elsewhere-on a es e) (swap (eqb f.adapter a) (eqb e.adapter a) (elsewhere a es))
 
-spans_on : (f : Entry) (es : List Entry) (e : Entry) →
-    spanning ((f ∷ es) ++ e ∷ []) ≡ pick (eqb e.adapter f.adapter) (spanning (f ∷ es)) true
-spans_on f es e = elsewhere-on f.adapter es e
+scoped_made : (f : Entry) {m n : ℕ} {t u : Bool} → m ≡ n → t ≡ u →
+    ◌≡◌ {A = Option Scoped}
+    (Some (record { row = record { adapter = f.adapter; number = f.number }; count = m; spans = t }))
+    (Some (record { row = record { adapter = f.adapter; number = f.number }; count = n; spans = u }))
+scoped_made f e g = rw (e, g)
 
-other-seen : (all ins : List Entry) (e : Entry) → other_tally (seen all ins) e.adapter ≡ seen (all ++ e ∷ []) ins
-unfolding other_tally
-other-seen all ins e = rw (first_on, some-on)
-
-scoped-seen : (all ins : List Entry) (e : Entry) →
-    scoped_tally (seen all ins) e.adapter e.number ≡ seen (all ++ e ∷ []) (ins ++ e ∷ [])
-unfolding scoped_tally elsewhere
-scoped-seen all [] e = rw (count_is 0 0 (omega arith), count_on, first_on, some-on)
-scoped-seen all (f ∷ ins) e =
-    let n = suc (length ins) in
-    rw (count_is n 0 (omega arith), ne_eqb n 0 (omega arith), count_on, first_on, some-on, spans_on, length-append)
+scoped-seen : (ins : List Entry) (e : Entry) →
+    Some (scoped_on (scoped_of ins) (record { adapter = e.adapter; number = e.number })) ≡ scoped_of (ins ++ e ∷ [])
+unfolding scoped_on elsewhere
+scoped-seen [] e = scoped_made e (sym one_counted) refl
+scoped-seen (f ∷ ins) e =
+    let n : suc (length ins) + 1 ≡ suc (length (ins ++ e ∷ [])) = omega (arith, length-append ins (e ∷ [])) in
+    scoped_made f (count_on (suc (length ins)) ∙ ap counted n) (sym (elsewhere-on f.adapter ins e))
 
 -- what is found by a tally is what the definition chooses from the rows that it saw
 found-seen : (all ins : List Entry) → found_by (seen all ins) ≡ chosen all ins
 unfolding found_by chosen none_of
-found-seen [] [] = rw (count_is 0 0 (omega arith))
-found-seen (e ∷ all) [] = rw (count_is 0 0 (omega arith))
-found-seen all (e ∷ []) = rw (count_is 1 0 (omega arith), count_is 1 1 (omega arith))
+found-seen [] [] = refl
+found-seen (e ∷ all) [] = refl
+found-seen all (e ∷ []) = rw (count_is 1 1 (omega arith))
 found-seen all (e ∷ f ∷ ins) =
     let n = suc (suc (length ins)) in
-    rw (count_is n 0 (omega arith), ne_eqb n 0 (omega arith), count_is n 1 (omega arith), ne_eqb n 1 (omega arith))
+    rw (count_is n 1 (omega arith), ne_eqb n 1 (omega arith))
 
 -- both tests of a row at once, or one after the other
 two-tests : {A : Type 0} (x y : Bool) (a b : A) → pick (pick x y false) a b ≡ pick x (pick y a b) b
@@ -128,16 +112,16 @@ tally-row kind name scope t e es true =
     (two-tests (eqb e.kind kind) (same_bytes e.name name) (tallied scope t e.adapter e.number) t)
 tally-row kind name scope t e es false = ap (λ (u : Tally). tally kind name scope u es) (sym (pick_same (eqb e.kind kind) t))
 
-tally-entry : (own : ℕ → Bool) (kind : ℕ) (name : List ℕ) (scope : Scope) (t : Tally) (written : List ℕ) (es : List Entry) (l : Line) →
+tally-entry : (own : ℕ → Bool) (kind : ℕ) (name : List ℕ) (scope : Scope) (t : Tally) (written : List ℕ) (es : List Entry) (l : Option Line) →
     tally kind name scope t (entries_on own (entry_by l written es))
     ≡ tally kind name scope (line_tally_by own kind name scope t written l) (entries_on own es)
 unfolding entries_on
-tally-entry own kind name scope t written es (Row k adapter number) =
+tally-entry own kind name scope t written es (Some (Row k adapter number)) =
     tally-row kind name scope t (record { kind = k; adapter = adapter; number = number; name = written }) (entries_on own es) (own adapter)
-tally-entry own kind name scope t written es (Primary a) = refl
-tally-entry own kind name scope t written es (Adapter a) = refl
-tally-entry own kind name scope t written es (Party a party) = refl
-tally-entry own kind name scope t written es Bad = refl
+tally-entry own kind name scope t written es (Some (Primary a)) = refl
+tally-entry own kind name scope t written es (Some (Adapter a)) = refl
+tally-entry own kind name scope t written es (Some (Party a party)) = refl
+tally-entry own kind name scope t written es Option.None = refl
 
 -- what the tests of a row say
 is_in_lem : (scope : Scope) (b : ℕ) → ((a : ℕ) → scope ≡ On a → b ≡ a) → is_in scope b ≡ true
@@ -147,7 +131,7 @@ is_in_lem (On a) b h = eq-eqb b a (h a refl)
 
 in_true : (scope : Scope) (b : ℕ) → is_in scope b ≡ true → (a : ℕ) → scope ≡ On a → b ≡ a
 unfolding is_in
-in_true Any b h a e = absurd (let z : ◌≡◌ {A = ℕ} 0 1 = cc in omega arith)
+in_true Any b h a e = cc
 in_true (On c) b h a e = let q : b ≡ c = eqb-true b c h in cc
 
 scope-by : (scope : Scope) (e : Entry) (es : List Entry) (t : Bool) →
@@ -157,13 +141,15 @@ scope-by scope e es true = refl
 scope-by scope e es false = refl
 
 -- only one row in scope is an answer
-chosen-one : (all ins : List Entry) {a n : ℕ} → chosen all ins ≡ One a n →
-    (e : Entry) × (ins ≡ e ∷ []) × (e.adapter ≡ a) × (e.number ≡ n)
+chosen-one : (all ins : List Entry) {r : Ref} → chosen all ins ≡ Ok r →
+    (e : Entry) × (ins ≡ e ∷ []) × (e.adapter ≡ r.adapter) × (e.number ≡ r.number)
 unfolding chosen none_of
-chosen-one [] [] h = absurd (let z : ◌≡◌ {A = ℕ} 0 1 = cc in omega arith)
-chosen-one (f ∷ all) [] h = absurd (let z : ◌≡◌ {A = ℕ} 0 1 = cc in omega arith)
-chosen-one all (e ∷ []) h = (e, refl, (cc), (cc))
-chosen-one all (e ∷ f ∷ ins) h = absurd (let z : ◌≡◌ {A = ℕ} 0 1 = cc in omega arith)
+chosen-one [] [] h = cc
+chosen-one (f ∷ all) [] h = cc
+chosen-one all (e ∷ []) {r} h =
+    let k : record { adapter = e.adapter; number = e.number } ≡ r = cc in
+    (e, refl, ap (λ (x : Ref). x.adapter) k, ap (λ (x : Ref). x.number) k)
+chosen-one all (e ∷ f ∷ ins) h = cc
 
 module _ (kind : ℕ) (name : List ℕ) (scope : Scope) where
   -- the rows in scope
@@ -176,10 +162,14 @@ module _ (kind : ℕ) (name : List ℕ) (scope : Scope) where
       tally kind name scope (seen all ins) es ≡ seen (all ++ candidates kind name es) (ins ++ rows es)
 
   added_in : (es : List Entry) → Added es → (all ins : List Entry) (e : Entry) (i : Bool) →
-      tally kind name scope (pick i (scoped_tally (seen all ins) e.adapter e.number) (other_tally (seen all ins) e.adapter)) es
+      tally kind name scope
+      (record {
+        first = first_on (first_of all) e.adapter;
+        scoped = pick i (Some (scoped_on (scoped_of ins) (record { adapter = e.adapter; number = e.number }))) (scoped_of ins);
+      }) es
       ≡ seen (all ++ e ∷ candidates kind name es) (ins ++ pick i (e ∷ rows es) (rows es))
-  added_in es k all ins e true = rw scoped-seen (simp append_assoc at (k (all ++ e ∷ []) (ins ++ e ∷ [])))
-  added_in es k all ins e false = rw other-seen (simp append_assoc at (k (all ++ e ∷ []) ins))
+  added_in es k all ins e true = rw (first-seen, scoped-seen) (simp append_assoc at (k (all ++ e ∷ []) (ins ++ e ∷ [])))
+  added_in es k all ins e false = rw first-seen (simp append_assoc at (k (all ++ e ∷ []) ins))
 
   added-row : (es : List Entry) → Added es → (all ins : List Entry) (e : Entry) (c : Bool) →
       let cs : List Entry = pick c (e ∷ candidates kind name es) (candidates kind name es) in
@@ -233,7 +223,7 @@ module _ (kind : ℕ) (name : List ℕ) (scope : Scope) where
       record { same_kind = eqb-true _ _ c.0; same_name = same-eq _ _ c.1; same_adapter = in_true scope _ b.1 }
 
   test-false : {e : Entry} → test e ≡ false → InScope kind name scope e → ⊥
-  test-false h c = let y = test-yes c in let z : ◌≡◌ {A = ℕ} 0 1 = cc in omega arith
+  test-false h c = let y = test-yes c in cc
 
   -- the rows in scope, one row after the other: none, or only one
   rows_on : (e : Entry) (es : List Entry) → rows (e ∷ es) ≡ pick (test e) (e ∷ rows es) (rows es)
@@ -257,13 +247,13 @@ module _ (kind : ℕ) (name : List ℕ) (scope : Scope) where
   none_rows [] h = none
   none_rows (e ∷ es) h =
       picked (λ (l : List Entry). l ≡ [] → None kind name scope (e ∷ es)) (test e)
-      (λ y q. absurd (let z : ◌≡◌ {A = ℕ} 0 1 = cc in omega arith))
+      (λ y q. cc)
       (λ n q. none_past (test-false n) (none_rows es q))
       (sym (rows_on e es) ∙ h)
 
   one-rows : (es : List Entry) (f : Entry) → rows es ≡ f ∷ [] → Picks kind name scope es f
   unfolding candidates in_scope
-  one-rows [] f h = absurd (let z : ◌≡◌ {A = ℕ} 0 1 = cc in omega arith)
+  one-rows [] f h = cc
   one-rows (e ∷ es) f h =
       picked (λ (l : List Entry). l ≡ f ∷ [] → Picks kind name scope (e ∷ es) f) (test e)
       (λ y q. let g : e ≡ f = cc in let r : rows es ≡ [] = cc in rw (sym g) (here (test-true e y) (none_rows es r)))
@@ -271,43 +261,17 @@ module _ (kind : ℕ) (name : List ℕ) (scope : Scope) where
       (sym (rows_on e es) ∙ h)
 
   -- an answer is found exactly where one row is in scope and no other
-  pub picks-sound : (es : List Entry) {a n : ℕ} → pick_named kind name scope es ≡ One a n →
-      (e : Entry) × Picks kind name scope es e × (e.adapter ≡ a) × (e.number ≡ n)
+  pub picks-sound : (es : List Entry) {r : Ref} → pick_named kind name scope es ≡ Ok r →
+      (e : Entry) × Picks kind name scope es e × (e.adapter ≡ r.adapter) × (e.number ≡ r.number)
   unfolding pick_named
   picks-sound es h =
       let c = chosen-one (candidates kind name es) (rows es) h in
       (c.0, one-rows es c.0 c.1, c.2, c.3)
 
   pub picks-complete : {es : List Entry} {e : Entry} → Picks kind name scope es e →
-      pick_named kind name scope es ≡ One e.adapter e.number
+      pick_named kind name scope es ≡ Ok (record { adapter = e.adapter; number = e.number })
   unfolding pick_named chosen
   picks-complete {es} p = ap (chosen (candidates kind name es)) (rows-one p)
-
--- Rules by which a search follows the code. Two tallies are equal by their fields.
-pub same-tally : {k l : Bool} {f g c d a b n m : ℕ} {s t : Bool} → k ≡ l → f ≡ g → c ≡ d → a ≡ b → n ≡ m → s ≡ t →
-    ◌≡◌ {A = Tally}
-    (record { known = k; first = f; count = c; adapter = a; number = n; spans = s })
-    (record { known = l; first = g; count = d; adapter = b; number = m; spans = t })
-same-tally k f c a n s = rw (k, f, c, a, n, s)
-
--- a scope that the code takes apart
-pub in_on : (scope : Scope) (adapter : ℕ) {a : ℕ} → scope ≡ On a → eqb adapter a ≡ is_in scope adapter
-unfolding is_in
-in_on scope adapter e = rw e
-
--- a line that the code takes apart: a callee answered a, which was v; and w, which is the line's name
-pub by-line : (own : ℕ → Bool) (kind : ℕ) (name : List ℕ) (scope : Scope) (t : Tally) (l : List ℕ) {a v : Line} {x : Tally} →
-    a ≡ line_of l → a ≡ v → x ≡ line_tally_by own kind name scope t (name_of l) v → x ≡ line_tally own kind name scope t l
-unfolding line_tally
-by-line own kind name scope t l asked was h = rw (sym asked ∙ was) h
-
-pub name-yes : {A : Type 0} (written name : List ℕ) (a b : A) {w : List ℕ} {r : Bool} {x : A} →
-    r ≡ same_bytes w name → w ≡ written → r ≡ true → x ≡ a → x ≡ pick (same_bytes written name) a b
-name-yes written name a b s e h g = rw (← e, ← s, h) g
-
-pub name-no : {A : Type 0} (written name : List ℕ) (a b : A) {w : List ℕ} {r : Bool} {x : A} →
-    r ≡ same_bytes w name → w ≡ written → r ≡ false → x ≡ b → x ≡ pick (same_bytes written name) a b
-name-no written name a b s e h g = rw (← e, ← s, h) g
 
 -- a callee's answer r of which the code asks whether it is no
 pub not-told-no : {A : Type 0} {r : Bool} (t : Bool) (a b : A) {x : A} → r ≡ t → not r ≡ true → x ≡ b → x ≡ pick t a b
@@ -315,6 +279,3 @@ not-told-no {r = r} t a b d h e = told-no t a b d (not-true r h) e
 
 pub not-told-yes : {A : Type 0} {r : Bool} (t : Bool) (a b : A) {x : A} → r ≡ t → not r ≡ false → x ≡ a → x ≡ pick t a b
 not-told-yes {r = r} t a b d h e = told-yes t a b d (not-false r h) e
-
--- closes what is left of a function that takes a scope or a line apart
-pub ruleset lookups = (in_on, by-line, name-yes, name-no, not-told-no, not-told-yes, steps)

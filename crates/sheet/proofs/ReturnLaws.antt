@@ -8,7 +8,8 @@ use native.Mathlib.Nat.{suc-add}
 use lib.ListN.{length, take, drop, get_or, length-append, length-take}
 use lib.Seq.{take-append-add, get_or-append-add}
 use lib.Dec.{eqb, ltb, leb}
-use borrow.Author.Tests.{leb-true, lt-leb, eqb-true, eq-eqb, ne_eqb}
+use borrow.Author.Tests.{leb-true, eqb-true, eq-eqb, ne_eqb}
+use Rattle.std.specs.Prelude.{Option, None}
 use Rattle.text.specs.Find.{index_of, index_after}
 use Rattle.text.specs.Choice.{pick, within}
 use Rattle.text.specs.Literal.{ascii}
@@ -17,11 +18,10 @@ use Rattle.text.specs.Ascii.{is_digit}
 use Rattle.text.proofs.Tests.{picked, pick_same, both}
 use Rattle.text.proofs.PartLaws.{same-eq}
 use Rattle.model.specs.Limits.{last_adapter, longest_name}
-use Rattle.sheet.specs.Kind.{no_kind, kind_of, most_of}
-use Rattle.sheet.specs.Line.{without_return, field, rest, has_comma, digits_on, numeral, is_mark, plain, is_name, checked_row, read_row, primary_of, adapter_of, party_by, party_of, line_by, bare_line, line_of, name_of}
+use Rattle.sheet.specs.Kind.{kind_of, most_of}
+use Rattle.sheet.specs.Line.{without_return, field, rest, has_comma, digits_on, numeral, is_mark, plain, is_name, checked_row, read_row, party_of, line_by, bare_line, line_of, name_of}
 use Rattle.sheet.specs.declared.line.Line.{Line}
-use Rattle.sheet.specs.declared.line.Line.TheVariants.{Bad}
-use Rattle.sheet.proofs.LineLaws.{most-small, return_not}
+use Rattle.sheet.proofs.LineLaws.{given, return_not}
 
 -- ---- the end
 
@@ -82,11 +82,11 @@ by_parts : {A : Type 0} (l : List ℕ) → holds 0x0D l ≡ true → (holds 0x0D
 by_parts l h f g = either-of (holds 0x0D (field l)) (sym (holds-parted l) ∙ h) f g
 
 -- no number has one, no name and no word
-digits_return : (v : ℕ) (l : List ℕ) → holds 0x0D l ≡ true → digits_on v l ≡ 1000
+digits_return : (v : ℕ) (l : List ℕ) → holds 0x0D l ≡ true → digits_on v l ≡ None
 unfolding holds digits_on is_digit
 digits_return v [] h = absurd (false≢true h)
 digits_return v (c ∷ l) h =
-    let P : ℕ → Type 0 = λ n. n ≡ 1000 in
+    let P : Option ℕ → Type 0 = λ n. n ≡ None in
     picked P (is_digit c)
     (λ digit.
     picked P (ltb 999 (v * 10 + (c - 0x30))) (λ _. refl)
@@ -95,17 +95,17 @@ digits_return v (c ∷ l) h =
     digits_return (v * 10 + (c - 0x30)) l (rw (ne_eqb c 0x0D (λ e. omega arith)) at h)))
     (λ _. refl)
 
-numeral_return : (l : List ℕ) → holds 0x0D l ≡ true → numeral l ≡ 1000
+numeral_return : (l : List ℕ) → holds 0x0D l ≡ true → numeral l ≡ None
 unfolding holds numeral
 numeral_return [] h = refl
 numeral_return (c ∷ []) h =
-    picked (λ (n : ℕ). n ≡ 1000) (eqb c 0x30)
+    picked (λ (n : Option ℕ). n ≡ None) (eqb c 0x30)
     (λ e.
     let is = eqb-true c 0x30 e in
     absurd (false≢true (rw (ne_eqb c 0x0D (λ k. omega arith)) at h)))
     (λ _. digits_return 0 (c ∷ []) h)
 numeral_return (c ∷ d ∷ l) h =
-    picked (λ (n : ℕ). n ≡ 1000) (eqb c 0x30) (λ _. rw (ne_eqb (suc (length l)) 0 (λ e. omega arith))) (λ _. digits_return 0 (c ∷ d ∷ l) h)
+    picked (λ (n : Option ℕ). n ≡ None) (eqb c 0x30) (λ _. rw (ne_eqb (suc (length l)) 0 (λ e. omega arith))) (λ _. digits_return 0 (c ∷ d ∷ l) h)
 
 plain_return : (l : List ℕ) → holds 0x0D l ≡ true → plain l ≡ false
 unfolding holds plain is_mark
@@ -127,26 +127,29 @@ word_return : (w k : List ℕ) → holds 0x0D w ≡ true → holds 0x0D k ≡ fa
 word_return w k h n = word-by w k (same_bytes w k) refl h n
 
 -- so no line has one
-bad_if : (t : Bool) {l : Line} → l ≡ Bad → pick t l Bad ≡ Bad
+abbrev IsBad : Option Line → Type 0
+IsBad x = x ≡ None
+
+bad_if : (t : Bool) {l : Option Line} → l ≡ None → pick t l None ≡ None
 bad_if true e = e
 bad_if false e = refl
 
-field-bad : (w l : List ℕ) → holds 0x0D w ≡ true → line_by w l ≡ Bad
+field-bad : (w l : List ℕ) → holds 0x0D w ≡ true → line_by w l ≡ None
 unfolding line_by kind_of holds
 field-bad w l h =
     let no : (k : List ℕ) → holds 0x0D k ≡ false → same_bytes w k ≡ false = λ k n. word_return w k h n in
     rw
     (no (ascii "primary") refl, no (ascii "adapter") refl, no (ascii "party") refl, no (ascii "lamp") refl, no (ascii "group") refl, no (ascii "device") refl, no (ascii "input") refl)
 
-party-bad : (l : List ℕ) → holds 0x0D l ≡ true → party_of l ≡ Bad
-unfolding party_of party_by
+party-bad : (l : List ℕ) → holds 0x0D l ≡ true → party_of l ≡ None
+unfolding party_of
 party-bad l h =
     bad_if (has_comma l)
     (by_parts l h
     (λ k. rw (numeral_return (field l) k))
-    (λ k. bad_if (leb (numeral (field l)) last_adapter) (rw (numeral_return (rest l) k))))
+    (λ k. given IsBad _ (numeral (field l)) refl (λ a _. rw (numeral_return (rest l) k))))
 
-row-bad : (kind : ℕ) (l : List ℕ) → holds 0x0D l ≡ true → read_row kind l ≡ Bad
+row-bad : (kind : ℕ) (l : List ℕ) → holds 0x0D l ≡ true → read_row kind l ≡ None
 unfolding read_row checked_row
 row-bad kind l h =
     bad_if (has_comma l)
@@ -154,23 +157,25 @@ row-bad kind l h =
     (by_parts l h
     (λ k. rw (numeral_return (field l) k))
     (λ k.
-    bad_if (leb (numeral (field l)) last_adapter)
-    (by_parts (rest l) k
-    (λ m. rw (numeral_return (field (rest l)) m, lt-leb 1000 (most_of kind) (omega (arith, most-small kind))))
-    (λ m. bad_if (leb (numeral (field (rest l))) (most_of kind)) (rw (name_return (rest (rest l)) m)))))))
+    given IsBad _ (numeral (field l)) refl
+    (λ a _.
+    by_parts (rest l) k
+    (λ m. rw (numeral_return (field (rest l)) m))
+    (λ m.
+    given IsBad _ (numeral (field (rest l))) refl
+    (λ n _. bad_if (leb a last_adapter) (bad_if (leb n (most_of kind)) (rw (name_return (rest (rest l)) m)))))))))
 
-rest-bad : (w l : List ℕ) → holds 0x0D l ≡ true → line_by w l ≡ Bad
-unfolding line_by primary_of adapter_of
+rest-bad : (w l : List ℕ) → holds 0x0D l ≡ true → line_by w l ≡ None
+unfolding line_by
 rest-bad w l h =
-    let IsBad : Line → Type 0 = λ x. x ≡ Bad in
     picked IsBad (same_bytes w (ascii "primary")) (λ _. rw (numeral_return l h))
     (λ _.
     picked IsBad (same_bytes w (ascii "adapter")) (λ _. rw (numeral_return l h))
     (λ _.
     picked IsBad (same_bytes w (ascii "party")) (λ _. party-bad l h)
-    (λ _. picked IsBad (eqb (kind_of w) no_kind) (λ _. refl) (λ _. row-bad (kind_of w) l h))))
+    (λ _. given IsBad _ (kind_of w) refl (λ kind _. row-bad kind l h))))
 
-bare-bad : (l : List ℕ) → holds 0x0D l ≡ true → bare_line l ≡ Bad
+bare-bad : (l : List ℕ) → holds 0x0D l ≡ true → bare_line l ≡ None
 unfolding bare_line
 bare-bad l h = bad_if (has_comma l) (by_parts l h (λ k. field-bad (field l) (rest l) k) (λ k. rest-bad (field l) (rest l) k))
 
@@ -180,7 +185,7 @@ holds_in b [] l = rw (eq-eqb b b refl)
 holds_in b (c ∷ a) l = rw (holds_in b a l) (pick_same (eqb c b) true)
 
 -- a line is bad that has a CR with something behind it, be it another CR
-pub other_return : (a b : List ℕ) → 0 < length b → line_of (a ++ 0x0D ∷ b) ≡ Bad
+pub other_return : (a b : List ℕ) → 0 < length b → line_of (a ++ 0x0D ∷ b) ≡ None
 unfolding line_of
 other_return a b h =
     rw (return_behind a (0x0D ∷ b) (omega arith), return_behind (0x0D ∷ []) b h) (bare-bad (a ++ 0x0D ∷ without_return b) (holds_in 0x0D a (without_return b)))

@@ -9,7 +9,8 @@ use native.Mathlib.Numerals.{add-one}
 use lib.ListN.{length, take, drop, get_or, length-append, length-take, length-drop}
 use lib.Seq.{split_at, drop-drop, drop-append-add, get_or-append_seam, take-add, take_all}
 use lib.Dec.{ltb, leb, eqb}
-use borrow.Author.Tests.{ltb-true, ltb-false, leb-true, eqb-false}
+use borrow.Author.Tests.{ltb-true, ltb-false}
+use Rattle.std.specs.Prelude.{Option, Some, None}
 use Rattle.text.specs.Find.{index_of}
 use Rattle.text.specs.Choice.{pick}
 use Rattle.text.specs.Literal.{ascii}
@@ -18,17 +19,17 @@ use Rattle.text.proofs.Tests.{picked}
 use Rattle.text.proofs.PartLaws.{same_refl, same-eq, same_by}
 use Rattle.text.specs.Find.{first_at}
 use Rattle.model.specs.Limits.{last_adapter, last_party}
-use Rattle.sheet.specs.Kind.{no_kind, kind_of, most_of}
+use Rattle.sheet.specs.Kind.{kind_of, most_of}
 use Rattle.sheet.specs.Line.{without_return, field, rest, has_comma, numeral, is_name, checked_row, read_row, primary_of, adapter_of, party_by, party_of, line_by, bare_line, bare_name, line_of, name_of}
 use Rattle.sheet.specs.Sheet.{line_end}
 use Rattle.sheet.specs.Tally.{line_tally_by, line_tally, ends_with, Passed}
 use Rattle.sheet.specs.declared.line.Line.{Line}
-use Rattle.sheet.specs.declared.line.Line.TheVariants.{Primary, Adapter, Party, Row, Bad}
+use Rattle.sheet.specs.declared.line.Line.TheVariants.{Primary, Adapter, Party, Row}
 use Rattle.sheet.specs.declared.resolve.Scope.{Scope}
 use Rattle.sheet.specs.declared.resolve.Tally.{Tally}
 use Rattle.text.proofs.FindLaws.{index-found, first-from, first_past, first-same}
 use Rattle.text.proofs.SplitLaws.{split-none}
-use Rattle.sheet.proofs.LineLaws.{most-small}
+use Rattle.sheet.proofs.LineLaws.{given}
 use Rattle.sheet.proofs.ReturnLaws.{return_length, return_behind}
 use Rattle.sheet.proofs.ResolveLaws.{tally-on}
 
@@ -55,33 +56,33 @@ behind-both b c =
     }
 
 -- A, if the line says a row
-abbrev IfRow : Type 0 → Line → Type 0
-IfRow A (Row kind adapter number) = A
-IfRow A (Primary a) = Unit {0}
-IfRow A (Adapter a) = Unit {0}
-IfRow A (Party a party) = Unit {0}
-IfRow A Bad = Unit {0}
+abbrev IfRow : Type 0 → Option Line → Type 0
+IfRow A (Some (Row kind adapter number)) = A
+IfRow A (Some (Primary a)) = Unit {0}
+IfRow A (Some (Adapter a)) = Unit {0}
+IfRow A (Some (Party a party)) = Unit {0}
+IfRow A None = Unit {0}
 
 -- a kind's word has four bytes or more, a number one
-kind-long : (w : List ℕ) → (kind_of w ≡ no_kind → ⊥) → 4 ≤ length w
+kind-long : (w : List ℕ) {kind : ℕ} → kind_of w ≡ Some kind → 4 ≤ length w
 unfolding kind_of
-kind-long w =
-    let P : ℕ → Type 0 = λ k. (k ≡ no_kind → ⊥) → 4 ≤ length w in
+kind-long w {kind} =
+    let P : Option ℕ → Type 0 = λ k. k ≡ Some kind → 4 ≤ length w in
     picked P (same_bytes w (ascii "lamp")) (λ e _. rw (same-eq w _ e) (omega arith))
     (λ _.
     picked P (same_bytes w (ascii "group")) (λ e _. rw (same-eq w _ e) (omega arith))
     (λ _.
     picked P (same_bytes w (ascii "device")) (λ e _. rw (same-eq w _ e) (omega arith))
     (λ _.
-    picked P (same_bytes w (ascii "input")) (λ e _. rw (same-eq w _ e) (omega arith)) (λ _ n. absurd (n refl)))))
+    picked P (same_bytes w (ascii "input")) (λ e _. rw (same-eq w _ e) (omega arith)) (λ _ n. cc))))
 
-numeral-long : (l : List ℕ) (most : ℕ) → most ≤ last_adapter → leb (numeral l) most ≡ true → 1 ≤ length l
+numeral-long : (l : List ℕ) {n : ℕ} → numeral l ≡ Some n → 1 ≤ length l
 unfolding numeral
-numeral-long [] most h e = absurd (omega (arith, leb-true 1000 most e))
-numeral-long (c ∷ l) most h e = omega arith
+numeral-long [] e = cc
+numeral-long (c ∷ l) e = omega arith
 
 -- under a test without which the line is bad
-guarded : (A : Type 0) (t : Bool) (x : Line) → (t ≡ true → IfRow A x) → IfRow A (pick t x Bad)
+guarded : (A : Type 0) (t : Bool) (x : Option Line) → (t ≡ true → IfRow A x) → IfRow A (pick t x None)
 guarded A true x f = f refl
 guarded A false x f = tt
 
@@ -93,24 +94,26 @@ row-parted A kind l f =
     (λ first.
     guarded A (has_comma (rest l)) _
     (λ second.
-    guarded A (leb (numeral (field l)) last_adapter) _
-    (λ adapter.
-    guarded A (leb (numeral (field (rest l))) (most_of kind)) _
-    (λ number.
-    guarded A (is_name (rest (rest l))) _
+    given (IfRow A) _ (numeral (field l)) tt
+    (λ a adapter.
+    given (IfRow A) _ (numeral (field (rest l))) tt
+    (λ n number.
+    guarded A (leb a last_adapter) _
     (λ _.
-    f
-    (behind-both
-    (behind-field 1 l first (numeral-long _ last_adapter (omega arith) adapter))
-    (behind-field 1 (rest l) second (numeral-long _ (most_of kind) (most-small kind) number))))))))
+    guarded A (leb n (most_of kind)) _
+    (λ _.
+    guarded A (is_name (rest (rest l))) _
+    (λ _. f (behind-both (behind-field 1 l first (numeral-long _ adapter)) (behind-field 1 (rest l) second (numeral-long _ number))))))))))
 
 party-parted : (A : Type 0) (l : List ℕ) → IfRow A (party_of l)
 unfolding party_of party_by
 party-parted A l =
     guarded A (has_comma l) _
     (λ _.
-    guarded A (leb (numeral (field l)) last_adapter) _
-    (λ _. guarded A (leb (numeral (rest l)) last_party) _ (λ _. tt)))
+    given (IfRow A) _ (numeral (field l)) tt
+    (λ a _.
+    given (IfRow A) _ (numeral (rest l)) tt
+    (λ p _. guarded A (leb a last_adapter) _ (λ _. guarded A (leb p last_party) _ (λ _. tt)))))
 
 bare-parted : (l : List ℕ) → IfRow (Behind 8 l (bare_name l)) (bare_line l)
 unfolding bare_line line_by bare_name primary_of adapter_of
@@ -118,16 +121,18 @@ bare-parted l =
     let A : Type 0 = Behind 8 l (bare_name l) in
     guarded A (has_comma l) _
     (λ comma.
-    picked (IfRow A) (same_bytes (field l) (ascii "primary")) (λ _. guarded A (leb (numeral (rest l)) last_adapter) _ (λ _. tt))
+    picked (IfRow A) (same_bytes (field l) (ascii "primary"))
+    (λ _. given (IfRow A) _ (numeral (rest l)) tt (λ a _. guarded A (leb a last_adapter) _ (λ _. tt)))
     (λ _.
-    picked (IfRow A) (same_bytes (field l) (ascii "adapter")) (λ _. guarded A (leb (numeral (rest l)) last_adapter) _ (λ _. tt))
+    picked (IfRow A) (same_bytes (field l) (ascii "adapter"))
+    (λ _. given (IfRow A) _ (numeral (rest l)) tt (λ a _. guarded A (leb a last_adapter) _ (λ _. tt)))
     (λ _.
     picked (IfRow A) (same_bytes (field l) (ascii "party")) (λ _. party-parted A (rest l))
     (λ _.
-    picked (IfRow A) (eqb (kind_of (field l)) no_kind) (λ _. tt)
-    (λ some.
-    row-parted A (kind_of (field l)) (rest l)
-    (λ b. behind-both (behind-field 4 l comma (kind-long _ (eqb-false _ _ some))) b))))))
+    given (IfRow A) _ (kind_of (field l)) tt
+    (λ kind some.
+    row-parted A kind (rest l)
+    (λ b. behind-both (behind-field 4 l comma (kind-long _ some)) b))))))
 
 -- a line without its CR ends with a comma and the name, as a row with the name does
 abbrev Named : List ℕ → List ℕ → Type 0
@@ -138,9 +143,9 @@ unfolding line_of name_of
 line-parted l = bare-parted (without_return l)
 
 -- and a line changes no tally unless it is so
-kept_by : (own : ℕ → Bool) (kind : ℕ) (name : List ℕ) (scope : Scope) (t : Tally) (l written : List ℕ) (x : Line) →
+kept_by : (own : ℕ → Bool) (kind : ℕ) (name : List ℕ) (scope : Scope) (t : Tally) (l written : List ℕ) (x : Option Line) →
     IfRow (Named written l) x → (Named name l → ⊥) → t ≡ line_tally_by own kind name scope t written x
-kept_by own kind name scope t l written (Row k adapter number) b n =
+kept_by own kind name scope t l written (Some (Row k adapter number)) b n =
     let P : Tally → Type 0 = λ u. t ≡ u in
     picked P (eqb k kind)
     (λ _.
@@ -148,10 +153,10 @@ kept_by own kind name scope t l written (Row k adapter number) b n =
     (λ _. picked P (same_bytes written name) (λ e. absurd (n (rw (same-eq written name e) at b))) (λ _. refl))
     (λ _. refl))
     (λ _. refl)
-kept_by own kind name scope t l written (Primary a) b n = refl
-kept_by own kind name scope t l written (Adapter a) b n = refl
-kept_by own kind name scope t l written (Party a party) b n = refl
-kept_by own kind name scope t l written Bad b n = refl
+kept_by own kind name scope t l written (Some (Primary a)) b n = refl
+kept_by own kind name scope t l written (Some (Adapter a)) b n = refl
+kept_by own kind name scope t l written (Some (Party a party)) b n = refl
+kept_by own kind name scope t l written None b n = refl
 
 kept : (own : ℕ → Bool) (kind : ℕ) (name : List ℕ) (scope : Scope) (t : Tally) (l : List ℕ) → (Named name l → ⊥) →
     t ≡ line_tally own kind name scope t l

@@ -3,49 +3,48 @@ use mathlib.Core.Path.{◌≡◌, ◌∙◌, refl, sym, ap}
 use mathlib.Core.Bool.{Bool, true, false, false≢true}
 use mathlib.Core.List.{List, [], ◌∷◌}
 use Prim.Native.Nat.{ℕ, ◌+◌}
-use native.Mathlib.Omega.{arith}
 use lib.ListN.{length}
 use lib.Dec.{eqb, ltb}
 use borrow.Author.Tests.{eqb-true, not-true}
+use Rattle.std.specs.Prelude.{Option, Some, None, Result, Ok, Err}
 use Rattle.text.specs.Choice.{pick}
 use Rattle.sheet.specs.Line.{line_of}
 use Rattle.sheet.specs.Sheet.{lines, last_line, longest_sheet, Sheet, well_formed, bad_line_rule, is_owner_of, has_owner, may_follow, following_check, is_primary, lines_check, sheet_check, is_listing, lists}
 use Rattle.sheet.specs.Party.{owner_by, owner_of, owns}
 use Rattle.sheet.specs.Adapters.{packed}
 use Rattle.sheet.specs.Survey.{may_add, added, none_said, bad_line, survey_from, survey_lines, survey_of}
+use Rattle.sheet.specs.declared.adapters.Adapters.{Adapters}
 use Rattle.sheet.specs.declared.line.Line.{Line}
-use Rattle.sheet.specs.declared.line.Line.TheVariants.{Primary, Adapter, Party, Row, Bad}
+use Rattle.sheet.specs.declared.line.Line.TheVariants.{Primary, Adapter, Party, Row}
 use Rattle.sheet.specs.declared.rows.Said.{Said}
-use Rattle.sheet.specs.declared.rows.Survey.{Survey}
-use Rattle.sheet.specs.declared.rows.Verdict.{Verdict}
-use Rattle.sheet.specs.declared.rows.Verdict.TheVariants.{WellFormed, BadLine}
+use Rattle.sheet.specs.declared.rows.BadLine.{BadLine}
 use Rattle.sheet.proofs.AdapterLaws.{eqb-turned, has-packed, packed-same, put-packed}
 use Rattle.sheet.proofs.RangeLaws.{LineInRange, line_in}
 
 -- a verdict in the words of question 3
-abbrev answer : Verdict → Sheet
-answer WellFormed = well_formed
-answer (BadLine n) = bad_line_rule n
+abbrev answer : Result Said BadLine → Sheet
+answer (Ok said) = well_formed
+answer (Err bad) = bad_line_rule bad.line
 
 -- what the code surveyed is what question 3 answers; and where that is well formed, these adapters are the party's and these listed
-record Comes (own listed : ℕ → Bool) (x : Survey) (u : Sheet) : Type 0 where
-  check : answer x.verdict ≡ u
-  own_set : u ≡ well_formed → x.said.own ≡ packed own
-  listed_set : u ≡ well_formed → x.said.listed ≡ packed listed
+record Comes (own listed : ℕ → Bool) (x : Result Said BadLine) (u : Sheet) : Type 0 where
+  check : answer x ≡ u
+  own_set : {said : Said} → x ≡ Ok said → said.own ≡ packed own
+  listed_set : {said : Said} → x ≡ Ok said → said.listed ≡ packed listed
 
-bad-not_well : {A : Type 0} (n : ℕ) → bad_line_rule n ≡ well_formed → A
-bad-not_well n h = absurd (let z : ◌≡◌ {A = ℕ} 0 1 = cc in omega arith)
+bad-not_well : {A : Type 0} (n : ℕ) (said : Said) {well : Said} → bad_line n said ≡ Ok well → A
+bad-not_well n said h = cc
 
 module _ {own listed : ℕ → Bool} where
   comes-bad : (n : ℕ) (said : Said) → Comes own listed (bad_line n said) (bad_line_rule n)
-  comes-bad n said = record { check = refl; own_set = λ h. bad-not_well n h; listed_set = λ h. bad-not_well n h }
+  comes-bad n said = record { check = refl; own_set = λ h. bad-not_well n said h; listed_set = λ h. bad-not_well n said h }
 
-  comes-by : (t : Bool) {x y : Survey} {u v : Sheet} → (t ≡ true → Comes own listed x u) → (t ≡ false → Comes own listed y v) →
+  comes-by : (t : Bool) {x y : Result Said BadLine} {u v : Sheet} → (t ≡ true → Comes own listed x u) → (t ≡ false → Comes own listed y v) →
       Comes own listed (pick t x y) (pick t u v)
   comes-by true f g = f refl
   comes-by false f g = g refl
 
-  comes-same : {f g : ℕ → Bool} {x : Survey} {u : Sheet} → ((a : ℕ) → f a ≡ own a) → ((a : ℕ) → g a ≡ listed a) → Comes f g x u →
+  comes-same : {f g : ℕ → Bool} {x : Result Said BadLine} {u : Sheet} → ((a : ℕ) → f a ≡ own a) → ((a : ℕ) → g a ≡ listed a) → Comes f g x u →
       Comes own listed x u
   comes-same {f} {g} h k c =
       record {
@@ -63,14 +62,14 @@ no-owner_by : (t : Bool) (p : ℕ) (said : Bool) (owner : ℕ) → pick said own
 no-owner_by true p said owner h = refl
 no-owner_by false p said owner h = h
 
-no-owner-line : (a : ℕ) (l : Line) (said : Bool) (owner : ℕ) → pick said owner 0 ≡ owner →
+no-owner-line : (a : ℕ) (l : Option Line) (said : Bool) (owner : ℕ) → pick said owner 0 ≡ owner →
     pick (pick (is_owner_of a l) true said) (owner_by a l owner) 0 ≡ owner_by a l owner
 unfolding is_owner_of owner_by
-no-owner-line a (Primary b) said owner h = h
-no-owner-line a (Adapter b) said owner h = h
-no-owner-line a (Party b party) said owner h = no-owner_by (eqb b a) party said owner h
-no-owner-line a (Row kind adapter number) said owner h = h
-no-owner-line a Bad said owner h = h
+no-owner-line a (Some (Primary b)) said owner h = h
+no-owner-line a (Some (Adapter b)) said owner h = h
+no-owner-line a (Some (Party b party)) said owner h = no-owner_by (eqb b a) party said owner h
+no-owner-line a (Some (Row kind adapter number)) said owner h = h
+no-owner-line a None said owner h = h
 
 no-owner : (a : ℕ) (ls : List (List ℕ)) → pick (has_owner a ls) (owner_of a ls) 0 ≡ owner_of a ls
 unfolding has_owner owner_of
@@ -90,15 +89,15 @@ owner-order : (t said : Bool) (p owner later : ℕ) → (t ≡ true → said ≡
 owner-order true said p owner later f = rw (f refl)
 owner-order false said p owner later f = refl
 
-owner-moved : (a : ℕ) (l : Line) (owner later : ℕ) (earlier : List (List ℕ)) → may_follow earlier l ≡ true →
+owner-moved : (a : ℕ) (l : Option Line) (owner later : ℕ) (earlier : List (List ℕ)) → may_follow earlier l ≡ true →
     pick (pick (is_owner_of a l) true (has_owner a earlier)) (owner_by a l owner) later ≡ pick (has_owner a earlier) owner (owner_by a l later)
 unfolding is_owner_of owner_by may_follow
-owner-moved a (Primary b) owner later earlier h = refl
-owner-moved a (Adapter b) owner later earlier h = refl
-owner-moved a (Party b party) owner later earlier h =
+owner-moved a (Some (Primary b)) owner later earlier h = refl
+owner-moved a (Some (Adapter b)) owner later earlier h = refl
+owner-moved a (Some (Party b party)) owner later earlier h =
     owner-order (eqb b a) (has_owner a earlier) party owner later (λ e. rw (eqb-true b a e) at (not-true (has_owner b earlier) h))
-owner-moved a (Row kind adapter number) owner later earlier h = refl
-owner-moved a Bad owner later earlier h = refl
+owner-moved a (Some (Row kind adapter number)) owner later earlier h = refl
+owner-moved a None owner later earlier h = refl
 
 either_order : (t u v : Bool) → pick (pick t true u) true v ≡ pick u true (pick t true v)
 either_order true true v = refl
@@ -110,21 +109,28 @@ either-none true = refl
 either-none false = refl
 
 -- the first line says nothing of another adapter than its own, and of that not whose it is, nor that it is listed
-primary-owner : (a : ℕ) (l : Line) (owner : ℕ) → is_primary l ≡ true → owner ≡ owner_by a l owner
+primary-owner : (a : ℕ) (l : Option Line) (owner : ℕ) → is_primary l ≡ true → owner ≡ owner_by a l owner
 unfolding is_primary owner_by
-primary-owner a (Primary b) owner h = refl
-primary-owner a (Adapter b) owner h = refl
-primary-owner a (Party b party) owner h = absurd (false≢true h)
-primary-owner a (Row kind adapter number) owner h = refl
-primary-owner a Bad owner h = refl
+primary-owner a (Some (Primary b)) owner h = refl
+primary-owner a (Some (Adapter b)) owner h = refl
+primary-owner a (Some (Party b party)) owner h = absurd (false≢true h)
+primary-owner a (Some (Row kind adapter number)) owner h = refl
+primary-owner a None owner h = refl
 
-primary-listing : (a : ℕ) (l : Line) → is_primary l ≡ true → is_listing a l ≡ false
+primary-listing : (a : ℕ) (l : Option Line) → is_primary l ≡ true → is_listing a l ≡ false
 unfolding is_primary is_listing
-primary-listing a (Primary b) h = refl
-primary-listing a (Adapter b) h = absurd (false≢true h)
-primary-listing a (Party b party) h = refl
-primary-listing a (Row kind adapter number) h = refl
-primary-listing a Bad h = refl
+primary-listing a (Some (Primary b)) h = refl
+primary-listing a (Some (Adapter b)) h = absurd (false≢true h)
+primary-listing a (Some (Party b party)) h = refl
+primary-listing a (Some (Row kind adapter number)) h = refl
+primary-listing a None h = refl
+
+-- of a well-formed sheet all lines say what is said
+well-own : {said well : Said} {x : Adapters} → ◌≡◌ {A = Result Said BadLine} (Ok said) (Ok well) → said.own ≡ x → well.own ≡ x
+well-own {said} {well} h e = let same : said ≡ well = cc in rw (← same) e
+
+well-listed : {said well : Said} {x : Adapters} → ◌≡◌ {A = Result Said BadLine} (Ok said) (Ok well) → said.listed ≡ x → well.listed ≡ x
+well-listed {said} {well} h e = let same : said ≡ well = cc in rw (← same) e
 
 module _ (party : ℕ) where
   -- by the lines so far an adapter has an owner, which is this, and is listed
@@ -133,29 +139,29 @@ module _ (party : ℕ) where
     own_set : said.own ≡ packed (λ a. eqb (owner a) party)
     listed_set : said.listed ≡ packed listed
 
-  noted_line : {said : Said} {o l : ℕ → Bool} {w : ℕ → ℕ} (x : Line) → Noted said o w l →
+  noted_line : {said : Said} {o l : ℕ → Bool} {w : ℕ → ℕ} (x : Option Line) → Noted said o w l →
       Noted (added party said x) (λ a. pick (is_owner_of a x) true (o a)) (λ a. owner_by a x (w a)) (λ a. pick (is_listing a x) true (l a))
   unfolding added is_owner_of owner_by is_listing
-  noted_line (Primary a) n = n
-  noted_line {l} (Adapter a) n =
+  noted_line (Some (Primary a)) n = n
+  noted_line {l} (Some (Adapter a)) n =
       record { owners_set = n.owners_set; own_set = n.own_set; listed_set = put-packed l _ a _ n.listed_set (λ b. refl) }
-  noted_line {o} {w} (Party a p) n =
+  noted_line {o} {w} (Some (Party a p)) n =
       record {
         owners_set = put-packed o _ a _ n.owners_set (λ b. refl);
         own_set = put-packed (λ b. eqb (w b) party) _ a _ n.own_set (λ b. eqb-pick (eqb a b) p (w b) party);
         listed_set = n.listed_set;
       }
-  noted_line (Row kind a number) n = n
-  noted_line Bad n = n
+  noted_line (Some (Row kind a number)) n = n
+  noted_line None n = n
 
-  may_by : {said : Said} {w : ℕ → ℕ} {l : ℕ → Bool} (earlier : List (List ℕ)) (x : Line) → LineInRange x →
+  may_by : {said : Said} {w : ℕ → ℕ} {l : ℕ → Bool} (earlier : List (List ℕ)) (x : Option Line) → LineInRange x →
       Noted said (λ a. has_owner a earlier) w l → may_add said x ≡ may_follow earlier x
   unfolding may_add may_follow LineInRange
-  may_by earlier (Primary a) h n = refl
-  may_by earlier (Adapter a) h n = refl
-  may_by earlier (Party a p) h n = rw (n.owners_set, has-packed (λ b. has_owner b earlier) a h)
-  may_by earlier (Row kind a number) h n = refl
-  may_by earlier Bad h n = refl
+  may_by earlier (Some (Primary a)) h n = refl
+  may_by earlier (Some (Adapter a)) h n = refl
+  may_by earlier (Some (Party a p)) h n = rw (n.owners_set, has-packed (λ b. has_owner b earlier) a h)
+  may_by earlier (Some (Row kind a number)) h n = refl
+  may_by earlier None h n = refl
 
   noted_from : (n : ℕ) (said : Said) (earlier ls : List (List ℕ)) →
       Noted said (λ a. has_owner a earlier) (λ a. owner_of a earlier) (λ a. lists a earlier) →
@@ -163,7 +169,7 @@ module _ (party : ℕ) where
   unfolding survey_from following_check has_owner owner_of lists
   noted_from n said earlier [] c =
       comes-same (λ a. ap (λ (w : ℕ). eqb w party) (sym (no-owner a earlier))) (λ a. either-none (lists a earlier))
-      record { check = refl; own_set = λ _. c.own_set; listed_set = λ _. c.listed_set }
+      record { check = refl; own_set = λ h. well-own h c.own_set; listed_set = λ h. well-listed h c.listed_set }
   noted_from n said earlier (l ∷ ls) c =
       comes-by (ltb last_line n) (λ _. comes-bad n said)
       (λ _.
@@ -196,11 +202,11 @@ module _ (party : ℕ) where
     sheet_comes = comes-by (ltb longest_sheet (length s)) (λ _. comes-bad 0 (none_said party)) (λ _. lines_come (lines s))
 
     -- the code's answer to question 3
-    pub survey_bad : {n : ℕ} → (survey_of party s).verdict ≡ BadLine n → sheet_check s ≡ bad_line_rule n
+    pub survey_bad : {bad : BadLine} → survey_of party s ≡ Err bad → sheet_check s ≡ bad_line_rule bad.line
     survey_bad h = sym sheet_comes.check ∙ ap answer h
 
-    pub survey_well : (survey_of party s).verdict ≡ WellFormed →
+    pub survey_well : {said : Said} → survey_of party s ≡ Ok said →
         (sheet_check s ≡ well_formed) ×
-        ((survey_of party s).said.own ≡ packed (owns party (lines s))) ×
-        ((survey_of party s).said.listed ≡ packed (λ a. lists a (lines s)))
-    survey_well h = let well = sym sheet_comes.check ∙ ap answer h in (well, sheet_comes.own_set well, sheet_comes.listed_set well)
+        (said.own ≡ packed (owns party (lines s))) ×
+        (said.listed ≡ packed (λ a. lists a (lines s)))
+    survey_well h = (sym sheet_comes.check ∙ ap answer h, sheet_comes.own_set h, sheet_comes.listed_set h)

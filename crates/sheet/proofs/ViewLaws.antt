@@ -5,6 +5,7 @@ use mathlib.Core.Path.{◌≡◌, refl, sym, fun_ext}
 use mathlib.Core.Bool.{Bool, false}
 use mathlib.Core.List.{List, [], ◌∷◌}
 use borrow.Author.Tests.{ne_eqb}
+use Rattle.std.specs.Prelude.{Option, Some, None}
 use Rattle.text.specs.Choice.{pick}
 use Rattle.text.proofs.Tests.{pick_same}
 use Rattle.model.specs.Limits.{last_adapter}
@@ -15,7 +16,7 @@ use Rattle.sheet.specs.Adapters.{has, packed}
 use Rattle.sheet.specs.View.{View, seen, settings_of, view_of}
 use Rattle.sheet.specs.declared.Call.{Call}
 use Rattle.sheet.specs.declared.line.Line.{Line}
-use Rattle.sheet.specs.declared.line.Line.TheVariants.{Primary, Adapter, Party, Row, Bad}
+use Rattle.sheet.specs.declared.line.Line.TheVariants.{Primary, Adapter, Party, Row}
 use Rattle.sheet.proofs.AdapterLaws.{has-packed, has_beyond}
 use Rattle.sheet.proofs.RangeLaws.{LineInRange, line_in, RowsInRange, no_row, a_row, rows_in}
 use Rattle.sheet.proofs.SkipLaws.{by_order}
@@ -29,13 +30,13 @@ same_view h k = rw (fun_ext h, k)
 
 -- no line lists an adapter above the last
 module _ (a : ℕ) (beyond : last_adapter < a) where
-  listing_beyond : (l : Line) → LineInRange l → is_listing a l ≡ false
+  listing_beyond : (l : Option Line) → LineInRange l → is_listing a l ≡ false
   unfolding is_listing LineInRange
-  listing_beyond (Primary b) r = refl
-  listing_beyond (Adapter b) r = ne_eqb b a (λ e. omega arith)
-  listing_beyond (Party b party) r = refl
-  listing_beyond (Row kind adapter number) r = refl
-  listing_beyond Bad r = refl
+  listing_beyond (Some (Primary b)) r = refl
+  listing_beyond (Some (Adapter b)) r = ne_eqb b a (λ e. omega arith)
+  listing_beyond (Some (Party b party)) r = refl
+  listing_beyond (Some (Row kind adapter number)) r = refl
+  listing_beyond None r = refl
 
   lists_beyond : (ls : List (List ℕ)) → lists a ls ≡ false
   unfolding lists

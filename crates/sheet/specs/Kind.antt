@@ -1,5 +1,5 @@
 -- The kinds of rows that have a name: "K is lamp, group, device or input" (document 01, "The name sheet").
-use Rattle.std.specs.Prelude.{ℕ, List, eqb}
+use Rattle.std.specs.Prelude.{ℕ, List, eqb, Option, Some, None}
 use Rattle.text.specs.Choice.{pick}
 use Rattle.text.specs.Literal.{ascii}
 use Rattle.text.specs.Part.{same_bytes}
@@ -21,13 +21,13 @@ device_kind = 3
 abbrev pub input_kind : ℕ
 input_kind = 4
 
--- the kind that a word names
-unfoldable pub kind_of : List ℕ → ℕ
+-- the kind that a word names, if it names one
+unfoldable pub kind_of : List ℕ → Option ℕ
 kind_of w =
-    pick (same_bytes w (ascii "lamp")) lamp_kind
-    (pick (same_bytes w (ascii "group")) group_kind
-    (pick (same_bytes w (ascii "device")) device_kind
-    (pick (same_bytes w (ascii "input")) input_kind no_kind)))
+    pick (same_bytes w (ascii "lamp")) (Some lamp_kind)
+    (pick (same_bytes w (ascii "group")) (Some group_kind)
+    (pick (same_bytes w (ascii "device")) (Some device_kind)
+    (pick (same_bytes w (ascii "input")) (Some input_kind) None)))
 
 -- "N at most 63 (15 for group)"
 unfoldable pub most_of : ℕ → ℕ

@@ -1,18 +1,18 @@
 -- Whose an adapter is (document 02, §6), and what of a sheet is one party's.
-use Rattle.std.specs.Prelude.{ℕ, ◌≤◌, ◌≡◌, List, [], ◌∷◌, Bool, eqb}
+use Rattle.std.specs.Prelude.{ℕ, ◌≤◌, ◌≡◌, List, [], ◌∷◌, Bool, eqb, Option, Some, None}
 use Rattle.text.specs.Choice.{pick}
 use Rattle.model.specs.Limits.{last_adapter}
 use Rattle.sheet.specs.Line.{line_of, name_of}
 use Rattle.sheet.specs.Sheet.{Entry, lines}
 use Rattle.sheet.specs.declared.line.Line.{Line}
-use Rattle.sheet.specs.declared.line.Line.TheVariants.{Primary, Adapter, Party, Row, Bad}
+use Rattle.sheet.specs.declared.line.Line.TheVariants.{Primary, Adapter, Party, Row}
 
-unfoldable pub owner_by : ℕ → Line → ℕ → ℕ
-owner_by a (Primary b) other = other
-owner_by a (Adapter b) other = other
-owner_by a (Party b party) other = pick (eqb b a) party other
-owner_by a (Row kind adapter number) other = other
-owner_by a Bad other = other
+unfoldable pub owner_by : ℕ → Option Line → ℕ → ℕ
+owner_by a (Some (Primary b)) other = other
+owner_by a (Some (Adapter b)) other = other
+owner_by a (Some (Party b party)) other = pick (eqb b a) party other
+owner_by a (Some (Row kind adapter number)) other = other
+owner_by a None other = other
 
 -- "Rows `party,A,P` say whose an adapter is; without one it is party 0's". A well-formed sheet has at most one for an adapter.
 unfoldable pub owner_of : ℕ → List (List ℕ) → ℕ
@@ -33,13 +33,13 @@ pub data OwnRow : Type 0 where
   adapter_row : ℕ → OwnRow
   named_row : Entry → OwnRow
 
-abbrev pub own_row_by : (ℕ → Bool) → Line → List ℕ → List OwnRow → List OwnRow
-own_row_by own (Primary a) name rows = rows
-own_row_by own (Adapter a) name rows = pick (own a) (adapter_row a ∷ rows) rows
-own_row_by own (Party a party) name rows = rows
-own_row_by own (Row kind adapter number) name rows =
+abbrev pub own_row_by : (ℕ → Bool) → Option Line → List ℕ → List OwnRow → List OwnRow
+own_row_by own (Some (Primary a)) name rows = rows
+own_row_by own (Some (Adapter a)) name rows = pick (own a) (adapter_row a ∷ rows) rows
+own_row_by own (Some (Party a party)) name rows = rows
+own_row_by own (Some (Row kind adapter number)) name rows =
     pick (own adapter) (named_row (record { kind = kind; adapter = adapter; number = number; name = name }) ∷ rows) rows
-own_row_by own Bad name rows = rows
+own_row_by own None name rows = rows
 
 -- the rows of these adapters, in their order
 unfoldable pub own_rows : (ℕ → Bool) → List (List ℕ) → List OwnRow

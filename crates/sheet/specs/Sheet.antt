@@ -1,11 +1,11 @@
 -- The name sheet: its lines, when it is well formed (question 3 of document 01), and what they say.
-use Rattle.std.specs.Prelude.{ℕ, ◌+◌, List, [], ◌∷◌, Bool, true, false, not, length, ltb, eqb}
+use Rattle.std.specs.Prelude.{ℕ, ◌+◌, List, [], ◌∷◌, Bool, true, false, not, length, ltb, eqb, Option, Some, None}
 use Rattle.text.specs.Choice.{pick}
 use Rattle.text.specs.Find.{first_at}
 use Rattle.text.specs.Split.{split}
 use Rattle.sheet.specs.Line.{line_of, name_of}
 use Rattle.sheet.specs.declared.line.Line.{Line}
-use Rattle.sheet.specs.declared.line.Line.TheVariants.{Primary, Adapter, Party, Row, Bad}
+use Rattle.sheet.specs.declared.line.Line.TheVariants.{Primary, Adapter, Party, Row}
 
 -- "lines end with LF, the last may lack it". The CR of document 02, §8, is taken off where a line is read.
 abbrev pub lines : List ℕ → List (List ℕ)
@@ -16,12 +16,12 @@ abbrev pub line_end : List ℕ → ℕ → ℕ
 line_end s at = first_at 0x0A s at
 
 -- whether a line says whose the adapter a is
-unfoldable pub is_owner_of : ℕ → Line → Bool
-is_owner_of a (Primary b) = false
-is_owner_of a (Adapter b) = false
-is_owner_of a (Party b party) = eqb b a
-is_owner_of a (Row kind adapter number) = false
-is_owner_of a Bad = false
+unfoldable pub is_owner_of : ℕ → Option Line → Bool
+is_owner_of a (Some (Primary b)) = false
+is_owner_of a (Some (Adapter b)) = false
+is_owner_of a (Some (Party b party)) = eqb b a
+is_owner_of a (Some (Row kind adapter number)) = false
+is_owner_of a None = false
 
 -- whether one of these lines does
 unfoldable pub has_owner : ℕ → List (List ℕ) → Bool
@@ -29,12 +29,12 @@ has_owner a [] = false
 has_owner a (l ∷ ls) = pick (is_owner_of a (line_of l)) true (has_owner a ls)
 
 -- a line that may follow the first, by the lines between them: an adapter, a row, or whose an adapter is; "a second such row for one is a bad line"
-unfoldable pub may_follow : List (List ℕ) → Line → Bool
-may_follow earlier (Primary a) = false
-may_follow earlier (Adapter a) = true
-may_follow earlier (Party a party) = not (has_owner a earlier)
-may_follow earlier (Row kind adapter number) = true
-may_follow earlier Bad = false
+unfoldable pub may_follow : List (List ℕ) → Option Line → Bool
+may_follow earlier (Some (Primary a)) = false
+may_follow earlier (Some (Adapter a)) = true
+may_follow earlier (Some (Party a party)) = not (has_owner a earlier)
+may_follow earlier (Some (Row kind adapter number)) = true
+may_follow earlier None = false
 
 -- "Then at most 512 rows"
 abbrev pub most_rows : ℕ
@@ -57,12 +57,12 @@ following_check n earlier (l ∷ ls) =
     (pick (may_follow earlier (line_of l)) (following_check (n + 1) (l ∷ earlier) ls) (bad_line_rule n))
 
 -- "First `primary,A`."
-unfoldable pub is_primary : Line → Bool
-is_primary (Primary a) = true
-is_primary (Adapter a) = false
-is_primary (Party a party) = false
-is_primary (Row kind adapter number) = false
-is_primary Bad = false
+unfoldable pub is_primary : Option Line → Bool
+is_primary (Some (Primary a)) = true
+is_primary (Some (Adapter a)) = false
+is_primary (Some (Party a party)) = false
+is_primary (Some (Row kind adapter number)) = false
+is_primary None = false
 
 unfoldable pub lines_check : List (List ℕ) → Sheet
 lines_check [] = bad_line_rule 1
@@ -83,36 +83,36 @@ pub record Entry : Type 0 where
   pub number : ℕ
   pub name : List ℕ
 
-abbrev pub entry_by : Line → List ℕ → List Entry → List Entry
-entry_by (Primary a) name es = es
-entry_by (Adapter a) name es = es
-entry_by (Party a party) name es = es
-entry_by (Row kind adapter number) name es = record { kind = kind; adapter = adapter; number = number; name = name } ∷ es
-entry_by Bad name es = es
+abbrev pub entry_by : Option Line → List ℕ → List Entry → List Entry
+entry_by (Some (Primary a)) name es = es
+entry_by (Some (Adapter a)) name es = es
+entry_by (Some (Party a party)) name es = es
+entry_by (Some (Row kind adapter number)) name es = record { kind = kind; adapter = adapter; number = number; name = name } ∷ es
+entry_by None name es = es
 
 -- the rows with names, in their order
 unfoldable pub entries : List (List ℕ) → List Entry
 entries [] = []
 entries (l ∷ ls) = entry_by (line_of l) (name_of l) (entries ls)
 
-unfoldable pub is_listing : ℕ → Line → Bool
-is_listing a (Primary b) = false
-is_listing a (Adapter b) = eqb b a
-is_listing a (Party b party) = false
-is_listing a (Row kind adapter number) = false
-is_listing a Bad = false
+unfoldable pub is_listing : ℕ → Option Line → Bool
+is_listing a (Some (Primary b)) = false
+is_listing a (Some (Adapter b)) = eqb b a
+is_listing a (Some (Party b party)) = false
+is_listing a (Some (Row kind adapter number)) = false
+is_listing a None = false
 
 -- "Only `adapter` rows list an adapter"
 unfoldable pub lists : ℕ → List (List ℕ) → Bool
 lists a [] = false
 lists a (l ∷ ls) = pick (is_listing a (line_of l)) true (lists a ls)
 
-abbrev pub primary_by : Line → ℕ
-primary_by (Primary a) = a
-primary_by (Adapter a) = 0
-primary_by (Party a party) = 0
-primary_by (Row kind adapter number) = 0
-primary_by Bad = 0
+abbrev pub primary_by : Option Line → ℕ
+primary_by (Some (Primary a)) = a
+primary_by (Some (Adapter a)) = 0
+primary_by (Some (Party a party)) = 0
+primary_by (Some (Row kind adapter number)) = 0
+primary_by None = 0
 
 -- the sheet's own primary adapter, which the first line names; 0 where it names none
 unfoldable pub primary_line : List (List ℕ) → ℕ

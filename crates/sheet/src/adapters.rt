@@ -15,7 +15,7 @@ pub fn all_if(all: bool) -> Adapters
 {
     if all {
         return Adapters {
-            words: [4294967295; 8],
+            words: [u32::MAX; 8],
         };
     }
     Adapters { words: [0; 8] }
@@ -42,7 +42,7 @@ pub fn put(set: Adapters, a: u32, inside: bool) -> Adapters
     let bit: u32 = 1 << (a % 32);
     let mut other = set;
     if inside {
-        other.words[at] = other.words[at] | bit;
+        other.words[at] |= bit;
     } else {
         // set before it is turned, so that it is 0 whatever it was
         other.words[at] = (other.words[at] | bit) ^ bit;

@@ -1,4 +1,5 @@
-// The kinds of rows that have a name, by number.
+// The kinds of rows that have a name, by number. They are no enum, since `pick_named` promises its answer for every number, also for NONE, of
+// which there is no row.
 ghost use Rattle.std.specs.Prelude.{◌≡◌};
 ghost use Rattle.sheet.specs.Kind.{kind_of, most_of};
 
@@ -14,26 +15,26 @@ pub const DEVICE: u32 = 3;
 
 pub const INPUT: u32 = 4;
 
-// The kind that a word names.
-pub fn kind_of(w: &[u8]) -> u32
+// The kind that a word names, if it names one.
+#[tactic(auto, unfolding(crate::specs::Kind::kind_of))]
+pub fn kind_of(w: &[u8]) -> Option<u32>
     ensures { result ≡ kind_of w.now }
 {
     if text::part::same(w, b"lamp") {
-        return LAMP;
+        Some(LAMP)
+    } else if text::part::same(w, b"group") {
+        Some(GROUP)
+    } else if text::part::same(w, b"device") {
+        Some(DEVICE)
+    } else if text::part::same(w, b"input") {
+        Some(INPUT)
+    } else {
+        None
     }
-    if text::part::same(w, b"group") {
-        return GROUP;
-    }
-    if text::part::same(w, b"device") {
-        return DEVICE;
-    }
-    if text::part::same(w, b"input") {
-        return INPUT;
-    }
-    NONE
 }
 
 // The highest number of a kind.
+#[tactic(auto, unfolding(crate::specs::Kind::most_of, model::specs::Limits::last_group, model::specs::Limits::last_short_address))]
 pub fn most_of(kind: u32) -> u32
     ensures { result ≡ most_of kind }
 {

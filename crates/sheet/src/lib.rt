@@ -36,3 +36,10 @@ pub struct Settings {
     pub own: Adapters,
     pub listed: Adapters,
 }
+
+// What a call sees of its sheet: the bytes, and what it goes by. Its methods stand where their subject does: rows.rt, resolve.rt, names.rt.
+#[derive(Clone, Copy)]
+pub struct View<'a> {
+    pub sheet: &'a [u8],
+    pub settings: Settings,
+}

@@ -1,14 +1,15 @@
 // One line of the name sheet. What a line means is said in one definition, line_of, and read by one function, line_of.
-ghost use Rattle.std.specs.Prelude.{◌≡◌, not, ℕ, ◌+◌, ◌-◌, length};
+ghost use Rattle.std.specs.Prelude.{◌≡◌, not, ℕ, ◌+◌, false, length, leb, Some, None, MatchOption};
 ghost use Rattle.text.specs.Block.{block};
+ghost use Rattle.text.specs.Choice.{pick};
 ghost use Rattle.text.specs.Find.{index_of};
-ghost use Rattle.sheet.specs.Line.{without_return, rest, numeral, is_mark, plain, is_name, digits_on, checked_row, read_row, primary_of, adapter_of, party_by, party_of, line_by, bare_line, bare_name, line_of, name_of};
+ghost use Rattle.model.specs.Limits.{last_adapter};
+ghost use Rattle.sheet.specs.Line.{without_return, has_comma, rest, Parted, numeral, is_mark, plain, is_name, digits_on, checked_row, read_row, party_by, party_of, line_by, bare_line, bare_name, line_of, name_of};
 
 use crate::kind;
 use model::limits;
 
-// What a line says: the primary adapter, a listed adapter, whose an adapter is, a row of a kind with its adapter and number, or nothing
-// that a sheet may say.
+// What a line says: the primary adapter, a listed adapter, whose an adapter is, or a row of a kind with its adapter and number.
 #[derive(Clone, Copy)]
 pub enum Line {
     Primary(u32),
@@ -22,21 +23,16 @@ pub enum Line {
         adapter: u32,
         number: u32,
     },
-    Bad,
 }
 
 // A line without the CR that belongs to its end: one, if one is there.
 pub fn without_return(l: &[u8]) -> &[u8]
     ensures { result.now ≡ without_return l.now }
 {
-    let len = l.len();
-    if len == 0 {
-        return l;
+    match l {
+        [front @ .., b'\r'] => front,
+        _ => l,
     }
-    if l[len - 1] == b'\r' {
-        return &l[..len - 1];
-    }
-    l
 }
 
 // The index of the first comma; the length where there is none.
@@ -46,104 +42,78 @@ pub fn comma(l: &[u8]) -> usize
     text::find::find(l, 0, b',')
 }
 
+// A line's first field, and what stands behind its comma, if it has one.
+pub fn parted(l: &[u8]) -> Option<(&[u8], &[u8])>
+    ensures { MatchOption result (has_comma l.now ≡ false) (λ p. Parted l.now p.0.now p.1.now) }
+{
+    let at = comma(l);
+    if at < l.len() {
+        Some((&l[..at], &l[at + 1..]))
+    } else {
+        None
+    }
+}
+
 // What stands behind the first comma.
 pub fn behind_comma(l: &[u8]) -> &[u8]
     ensures { result.now ≡ rest l.now }
 {
-    let at = comma(l);
-    if l.len() <= at {
-        return &l[..0];
+    match parted(l) {
+        Some((_, behind)) => behind,
+        None => &l[..0],
     }
-    &l[at + 1..]
 }
 
-// The number that digits write, up to 999 and with no leading zero; 1000 where the bytes are none.
-pub fn decimal(l: &[u8]) -> u32
+// The number that digits write, up to 999 and with no leading zero, if the bytes are one.
+pub fn decimal(l: &[u8]) -> Option<u32>
     ensures { result ≡ numeral l.now }
 {
-    if l.len() == 0 {
-        return 1000;
+    match l {
+        [] => None,
+        [b'0'] => Some(0),
+        [b'0', ..] => None,
+        _ => digits_from(l),
     }
-    if l[0] == b'0' {
-        if l.len() == 1 {
-            return 0;
-        }
-        return 1000;
-    }
-    digits_from(l)
 }
 
-fn digits_from(l: &[u8]) -> u32
+fn digits_from(l: &[u8]) -> Option<u32>
     ensures { result ≡ digits_on 0 l.now }
 {
-    let mut value: u32 = 0;
-    let mut i: usize = 0;
-    while i < l.len() {
-        let c = wide(l[i]);
-        if !text::ascii::is_digit(c) {
-            return 1000;
+    let mut value = 0;
+    for &c in l {
+        if !text::ascii::is_digit(u32::from(c)) {
+            return None;
         }
-        let more = value * 10 + digit(c);
-        if 999 < more {
-            return 1000;
+        value = value * 10 + u32::from(c - b'0');
+        if 999 < value {
+            return None;
         }
-        value = more;
-        i += 1;
     }
-    value
-}
-
-fn wide(b: u8) -> u32
-    ensures { result ≡ b }
-{
-    b as u32
-}
-
-// A digit's value.
-fn digit(c: u32) -> u32
-    ensures { result ≡ c - 0x30 }
-{
-    if c < 0x30 {
-        return 0;
-    }
-    c - 0x30
+    Some(value)
 }
 
 // A name that a sheet may have: 1 to 48 bytes, without quote or CR.
+#[tactic(auto, unfolding(crate::specs::Line::is_name))]
 pub fn is_name(l: &[u8]) -> bool
     ensures { result ≡ is_name l.now }
 {
-    if l.len() == 0 {
-        return false;
-    }
-    if limits::MAX_NAME_BYTES < l.len() {
-        return false;
-    }
-    is_plain(l)
+    !l.is_empty() && l.len() <= limits::MAX_NAME_BYTES && is_plain(l)
 }
 
 // A quote or a CR? Most bytes are above both, and so told by one test.
+#[tactic(auto, unfolding(crate::specs::Line::is_mark))]
 fn is_mark(c: u8) -> bool
     ensures { result ≡ is_mark c }
 {
-    if b'"' < c {
-        return false;
-    }
-    if c == b'"' {
-        return true;
-    }
-    c == b'\r'
+    c <= b'"' && matches!(c, b'"' | b'\r')
 }
 
-// Are there eight bytes at an offset, with no quote and no CR among them? As in text::utf8, all are tested at once.
+// Are there eight bytes at an offset, with no quote and no CR among them? As in text::block, all are tested at once.
 fn eight_unmarked(l: &[u8], at: usize) -> bool
     ensures { result ≡ block (λ (c : ℕ). not (is_mark c)) l.now at }
 {
     let len = l.len();
-    if len < 8 {
-        return false;
-    }
-    if len - 8 < at {
+    if len < 8 || len - 8 < at {
         return false;
     }
     !(((l[at] == b'"') | (l[at] == b'\r'))
@@ -160,17 +130,15 @@ fn eight_unmarked(l: &[u8], at: usize) -> bool
 fn each_plain(l: &[u8]) -> bool
     ensures { result ≡ plain l.now }
 {
-    let mut i: usize = 0;
-    while i < l.len() {
-        if is_mark(l[i]) {
+    for &c in l {
+        if is_mark(c) {
             return false;
         }
-        i += 1;
     }
     true
 }
 
-// No quote and no CR, asked of eight bytes at a time? The last eight begin at an offset, and some of them may have been tested before.
+// No quote and no CR, asked of eight bytes at a time, for speed? The last eight begin at an offset, and some of them may have been tested before.
 fn blocks_plain(l: &[u8], last: usize) -> bool
     requires { length l.now ≡ last + 8 }
     ensures { result ≡ plain l.now }
@@ -197,135 +165,106 @@ fn is_plain(l: &[u8]) -> bool
     blocks_plain(l, len - 8)
 }
 
-fn checked_row(kind: u32, adapter: u32, number: u32, name: &[u8]) -> Line
+// What a line says of an adapter, if there is such an adapter.
+fn if_adapter(a: u32, said: Line) -> Option<Line>
+    ensures { result ≡ pick (leb a last_adapter) (Some said) None }
+{
+    if a <= limits::MAX_ADAPTER {
+        Some(said)
+    } else {
+        None
+    }
+}
+
+#[tactic(auto, unfolding(crate::specs::Line::checked_row))]
+fn checked_row(kind: u32, adapter: u32, number: u32, name: &[u8]) -> Option<Line>
     ensures { result ≡ checked_row kind adapter number name.now }
 {
-    if limits::MAX_ADAPTER < adapter {
-        return Line::Bad;
-    }
-    if kind::most_of(kind) < number {
-        return Line::Bad;
-    }
-    if is_name(name) {
-        Line::Row {
+    if adapter <= limits::MAX_ADAPTER && number <= kind::most_of(kind) && is_name(name) {
+        Some(Line::Row {
             kind,
             adapter,
             number,
-        }
+        })
     } else {
-        Line::Bad
+        None
     }
 }
 
 // A row of a kind, from behind the kind's comma.
-fn read_row(kind: u32, l: &[u8]) -> Line
+#[tactic(auto, unfolding(crate::specs::Line::read_row))]
+fn read_row(kind: u32, l: &[u8]) -> Option<Line>
     ensures { result ≡ read_row kind l.now }
 {
-    let at = comma(l);
-    if l.len() <= at {
-        return Line::Bad;
-    }
-    let more = &l[at + 1..];
-    let second = comma(more);
-    if more.len() <= second {
-        return Line::Bad;
-    }
-    checked_row(
-        kind,
-        decimal(&l[..at]),
-        decimal(&more[..second]),
-        &more[second + 1..],
-    )
+    let (adapter, more) = parted(l)?;
+    let (number, name) = parted(more)?;
+    checked_row(kind, decimal(adapter)?, decimal(number)?, name)
 }
 
-fn line_by(w: &[u8], l: &[u8]) -> Line
+#[tactic(auto, unfolding(crate::specs::Line::line_by, crate::specs::Line::primary_of, crate::specs::Line::adapter_of))]
+fn line_by(w: &[u8], l: &[u8]) -> Option<Line>
     ensures { result ≡ line_by w.now l.now }
 {
     if text::part::same(w, b"primary") {
-        return primary_of(decimal(l));
-    }
-    if text::part::same(w, b"adapter") {
-        return adapter_of(decimal(l));
-    }
-    if text::part::same(w, b"party") {
-        return party_of(l);
-    }
-    let kind = kind::kind_of(w);
-    if kind == kind::NONE {
-        return Line::Bad;
-    }
-    read_row(kind, l)
-}
-
-fn primary_of(a: u32) -> Line
-    ensures { result ≡ primary_of a }
-{
-    if a <= limits::MAX_ADAPTER {
-        Line::Primary(a)
+        let a = decimal(l)?;
+        if_adapter(a, Line::Primary(a))
+    } else if text::part::same(w, b"adapter") {
+        let a = decimal(l)?;
+        if_adapter(a, Line::Adapter(a))
+    } else if text::part::same(w, b"party") {
+        party_of(l)
     } else {
-        Line::Bad
+        read_row(kind::kind_of(w)?, l)
     }
 }
 
-fn adapter_of(a: u32) -> Line
-    ensures { result ≡ adapter_of a }
-{
-    if a <= limits::MAX_ADAPTER {
-        Line::Adapter(a)
-    } else {
-        Line::Bad
-    }
-}
-
-fn party_by(adapter: u32, party: u32) -> Line
+#[tactic(auto, unfolding(crate::specs::Line::party_by))]
+fn party_by(adapter: u32, party: u32) -> Option<Line>
     ensures { result ≡ party_by adapter party }
 {
-    if limits::MAX_ADAPTER < adapter {
-        return Line::Bad;
+    if adapter <= limits::MAX_ADAPTER && party <= limits::MAX_PARTY {
+        Some(Line::Party { adapter, party })
+    } else {
+        None
     }
-    if limits::MAX_PARTY < party {
-        return Line::Bad;
-    }
-    Line::Party { adapter, party }
 }
 
 // Whose an adapter is, from behind the comma of `party`.
-fn party_of(l: &[u8]) -> Line
+#[tactic(auto, unfolding(crate::specs::Line::party_of))]
+fn party_of(l: &[u8]) -> Option<Line>
     ensures { result ≡ party_of l.now }
 {
-    let at = comma(l);
-    if l.len() <= at {
-        return Line::Bad;
-    }
-    party_by(decimal(&l[..at]), decimal(&l[at + 1..]))
+    let (adapter, party) = parted(l)?;
+    party_by(decimal(adapter)?, decimal(party)?)
 }
 
 // What a line says that is without its CR.
-fn bare_line(l: &[u8]) -> Line
+#[tactic(auto, unfolding(crate::specs::Line::bare_line))]
+fn bare_line(l: &[u8]) -> Option<Line>
     ensures { result ≡ bare_line l.now }
 {
-    let at = comma(l);
-    if l.len() <= at {
-        return Line::Bad;
-    }
-    line_by(&l[..at], &l[at + 1..])
+    let (word, more) = parted(l)?;
+    line_by(word, more)
 }
 
 // The name in a row's line that is without its CR.
+#[tactic(auto, unfolding(crate::specs::Line::bare_name))]
 fn bare_name(l: &[u8]) -> &[u8]
     ensures { result.now ≡ bare_name l.now }
 {
     behind_comma(behind_comma(behind_comma(l)))
 }
 
-// What a line says.
-pub fn line_of(l: &[u8]) -> Line
+// What a line says, if it says something that a sheet may say.
+#[tactic(auto, unfolding(crate::specs::Line::line_of))]
+pub fn line_of(l: &[u8]) -> Option<Line>
     ensures { result ≡ line_of l.now }
 {
     bare_line(without_return(l))
 }
 
 // The name in a row's line.
+#[tactic(auto, unfolding(crate::specs::Line::name_of))]
 pub fn name_of(l: &[u8]) -> &[u8]
     ensures { result.now ≡ name_of l.now }
 {

@@ -7,11 +7,12 @@ ghost use Rattle.sheet.specs.Names.{is_for, is_for_line, names_for, is_found, fo
 
 use crate::adapters::Adapters;
 use crate::line::Line;
-use crate::resolve::{Found, Scope};
-use crate::{Settings, adapters, line, resolve, rows};
+use crate::resolve::{Scope, Unfound};
+use crate::{View, adapters, line, rows};
+use model::Ref;
 
 // A lamp, group, device or input device, as an id refers to it.
-#[derive(Clone, Copy)]
+#[derive(Clone, Copy, PartialEq, Eq)]
 pub struct Numbered {
     pub kind: u32,
     pub adapter: u32,
@@ -26,101 +27,83 @@ pub enum Form {
     Nowise,
 }
 
+#[tactic(auto, unfolding(crate::specs::Names::is_for))]
 fn is_for(of: Numbered, kind: u32, adapter: u32, number: u32) -> bool
     ensures { result ≡ is_for of kind adapter number }
 {
-    if kind != of.kind {
-        return false;
+    of == Numbered {
+        kind,
+        adapter,
+        number,
     }
-    if adapter != of.adapter {
-        return false;
-    }
-    number == of.number
 }
 
 // Is the line a row for it that the call sees?
+#[tactic(auto, unfolding(crate::specs::Names::is_for_line))]
 pub fn is_for_line(own: Adapters, of: Numbered, l: &[u8]) -> bool
     ensures { result ≡ is_for_line (has own) of (line_of l.now) }
 {
-    let said = line::line_of(l);
-    match said {
-        Line::Row {
-            kind,
-            adapter,
-            number,
-        } => {
-            if adapters::has(own, adapter) {
-                return is_for(of, kind, adapter, number);
-            }
-            false
-        }
-        Line::Primary(_) => false,
-        Line::Adapter(_) => false,
-        Line::Party {
-            adapter: _,
-            party: _,
-        } => false,
-        Line::Bad => false,
+    match line::line_of(l) {
+        Some(
+            Line::Row {
+                kind,
+                adapter,
+                number,
+            },
+        ) => adapters::has(own, adapter) && is_for(of, kind, adapter, number),
+        _ => false,
     }
-}
-
-// The name in the k-th row for it that the call sees, from 0 on, in the sheet's order; no bytes where there are not so many.
-pub fn name_at(s: &[u8], settings: Settings, of: Numbered, k: u32) -> &[u8]
-    ensures { result.now ≡ get_or (names_for of (view_of settings s.now).rows) k [] }
-{
-    let own = settings.own;
-    let mut left = k;
-    let mut at = 0;
-    while at < s.len() {
-        let end = rows::line_end(s, at);
-        let l = text::part::part(s, at, end);
-        if is_for_line(own, of, l) {
-            if left == 0 {
-                return line::name_of(l);
-            }
-            left -= 1;
-        }
-        at = end + 1;
-    }
-    &s[..0]
 }
 
 // Was just it found?
-pub fn is_found(of: Numbered, found: Found) -> bool
+#[tactic(auto, unfolding(crate::specs::Names::is_found))]
+pub fn is_found(of: Numbered, found: Result<Ref, Unfound>) -> bool
     ensures { result ≡ is_found of found }
 {
     match found {
-        Found::One { adapter, number } => {
-            if adapter != of.adapter {
-                return false;
-            }
-            number == of.number
-        }
-        Found::Refused {
-            number: _,
-            detail: _,
-        } => false,
+        Ok(r) => r.adapter == of.adapter && r.number == of.number,
+        Err(_) => false,
     }
 }
 
-// How a name is written so that the call takes it for this one.
-pub fn form_of(s: &[u8], settings: Settings, name: &[u8], of: Numbered) -> Form
-    ensures { result ≡ form_of (view_of settings s.now) name.now of }
-{
-    if is_found(
-        of,
-        resolve::pick_named(s, settings, of.kind, name, Scope::Any),
-    ) {
-        return Form::Alone;
+impl<'a> View<'a> {
+    // The name in the k-th row for it that the call sees, from 0 on, in the sheet's order; no bytes where there are not so many.
+    pub fn name_at(&self, of: Numbered, k: u32) -> &'a [u8]
+        ensures { result.now ≡ get_or (names_for of (view_of self.now.settings self.now.sheet.now).rows) k [] }
+    {
+        let s = self.sheet;
+        let own = self.settings.own;
+        let mut left = k;
+        let mut at = 0;
+        // From line to line, by the end that was found.
+        while at < s.len() {
+            let end = rows::line_end(s, at);
+            let l = text::part::part(s, at, end);
+            if is_for_line(own, of, l) {
+                if left == 0 {
+                    return line::name_of(l);
+                }
+                left -= 1;
+            }
+            at = end + 1;
+        }
+        &s[..0]
     }
-    if !rows::adapter_exists(s, settings, of.adapter) {
-        return Form::Nowise;
+
+    // How a name is written so that the call takes it for this one.
+    #[tactic(auto, unfolding(crate::specs::Names::form_of, crate::specs::View::view_of))]
+    pub fn form_of(&self, name: &[u8], of: Numbered) -> Form
+        ensures { result ≡ form_of (view_of self.now.settings self.now.sheet.now) name.now of }
+    {
+        if is_found(of, self.pick_named(of.kind, name, Scope::Any)) {
+            return Form::Alone;
+        }
+        if !self.adapter_exists(of.adapter) {
+            return Form::Nowise;
+        }
+        if is_found(of, self.pick_named(of.kind, name, Scope::On(of.adapter))) {
+            return Form::WithAdapter;
+        }
+        Form::Nowise
     }
-    if is_found(
-        of,
-        resolve::pick_named(s, settings, of.kind, name, Scope::On(of.adapter)),
-    ) {
-        return Form::WithAdapter;
-    }
-    Form::Nowise
 }

@@ -2,13 +2,10 @@
 use Prim.Native.Nat.{ℕ, zero, suc, ◌-◌, ◌/◌, ◌%◌, ◌≤◌, ◌<◌}
 use mathlib.Core.Path.{◌≡◌, refl, sym, ap, ◌∙◌}
 use mathlib.Core.List.{List, [], ◌∷◌, ◌++◌, append_assoc, append-nil}
-use mathlib.Core.Bool.{Bool, true, false}
 use native.Mathlib.Omega.{arith}
-use lib.Dec.{ltb}
 use lib.ListN.{length, take, drop, set, length-set, length-drop}
 use lib.Seq.{take_all, drop-length}
 use borrow.Author.Tests.{lt-ltb, le-ltb}
-use Rattle.text.specs.Choice.{pick}
 use Rattle.text.specs.Literal.{ascii}
 use Rattle.tokens.specs.Rules.{most_run}
 use Rattle.writing.specs.Pieces.{Piece, digit, decimal, decimal_from, two_digits, three_digits, spelled_time, spelled_duration, spelled, further}
@@ -23,13 +20,13 @@ more-digits : (most n : ℕ) → 10 ≤ n → decimal_from (suc most) n ≡ deci
 unfolding decimal_from
 more-digits most n h = rw (le-ltb n 10 h)
 
--- The loop over the digits, from the last on: those behind first stand, and those of rest are to come.
-pub record Spelling (n : ℕ) (digits : List ℕ) (first rest : ℕ) : Type 0 where
+-- The loop over the digits, from the last on: those from left on stand, and those of rest are to come.
+pub record Spelling (n : ℕ) (digits : List ℕ) (left rest : ℕ) : Type 0 where
   pub long : length digits ≡ 10
-  pub within : first ≤ 9
-  pub same : decimal n ≡ decimal_from (suc first) rest ++ drop (suc first) digits
+  pub within : left ≤ 10
+  pub same : decimal n ≡ decimal_from left rest ++ drop left digits
 
-pub no_digit : (n : ℕ) {digits : List ℕ} → length digits ≡ 10 → Spelling n digits 9 n
+pub no_digit : (n : ℕ) {digits : List ℕ} → length digits ≡ 10 → Spelling n digits 10 n
 unfolding decimal
 no_digit n {digits} e =
     record { long = e; within = omega arith; same = sym (append-nil (decimal_from 10 n)) ∙ ap (λ (xs : List ℕ). decimal_from 10 n ++ xs) (sym none) }
@@ -37,7 +34,7 @@ no_digit n {digits} e =
     none : drop 10 digits ≡ []
     none = rw (← e) (drop-length digits)
 
-module _ {n : ℕ} {digits : List ℕ} {first rest d : ℕ} (s : Spelling n digits first rest) (e : d ≡ digit rest) where
+module _ {n : ℕ} {digits : List ℕ} {left first rest d : ℕ} (s : Spelling n digits left rest) (up : left ≡ suc first) (e : d ≡ digit rest) where
   behind : drop first (set digits first d) ≡ digit rest ∷ drop (suc first) digits
   behind =
       let long = s.long in
@@ -48,34 +45,26 @@ module _ {n : ℕ} {digits : List ℕ} {first rest d : ℕ} (s : Spelling n digi
   long-set = length-set digits first d ∙ s.long
 
   -- a digit, and the next
-  pub next-digit : 10 ≤ rest → (first ≡ 0 → ⊥) → Spelling n (set digits first d) (first - 1) (rest / 10)
-  next-digit h k =
+  pub next-digit : 10 ≤ rest → Spelling n (set digits first d) first (rest / 10)
+  next-digit h =
       let within = s.within in
-      let up : suc (first - 1) ≡ first = omega arith in
       record {
         long = long-set;
         within = omega arith;
-        same = s.same ∙ rw (more-digits first rest h, append_assoc, up, behind);
+        same = s.same ∙ rw (up, more-digits first rest h, append_assoc, behind);
       }
 
-  all_digits : decimal_from (suc first) rest ≡ digit rest ∷ [] → Made (decimal n) (take (10 - first) (drop first (set digits first d)) ∷ [])
-  unfolding joined
-  all_digits h =
+  -- the first digit
+  pub first_digit : rest < 10 → Made (decimal n) (take (10 - first) (drop first (set digits first d)) ∷ [])
+  unfolding decimal_from joined
+  first_digit h =
       let far : length (drop first (set digits first d)) ≤ 10 - first = rw (length-drop first (set digits first d), long-set) (omega arith) in
-      record { parts_of = s.same ∙ rw (h, take_all (10 - first) (drop first (set digits first d)) far, behind, append-nil) }
+      record { parts_of = s.same ∙ rw (up, lt-ltb rest 10 h, take_all (10 - first) (drop first (set digits first d)) far, behind, append-nil) }
 
-  -- the last one that is written: rest has no other, or ten stand
-  pub one-digit : rest < 10 → Made (decimal n) (take (10 - first) (drop first (set digits first d)) ∷ [])
-  unfolding decimal_from
-  one-digit h = all_digits (rw (lt-ltb rest 10 h))
-
-  pub tenth_digit : first ≡ 0 → Made (decimal n) (take (10 - first) (drop first (set digits first d)) ∷ [])
-  unfolding decimal_from
-  tenth_digit h = all_digits (rw h (either (ltb rest 10)))
-    where
-      either : (t : Bool) → pick t (digit rest ∷ []) (digit rest ∷ []) ≡ digit rest ∷ []
-      either true = refl
-      either false = refl
+-- ten digits stand
+pub ten_digits : {n : ℕ} {digits : List ℕ} {left rest : ℕ} → Spelling n digits left rest → left ≡ 0 → Made (decimal n) (digits ∷ [])
+unfolding decimal_from joined
+ten_digits {digits = digits} s e = record { parts_of = s.same ∙ rw (e, append-nil digits) }
 
 -- The parts of what is written, by the digits that were computed.
 pub number-made : (n : ℕ) → Made (further (Piece.integer n ∷ [])) (ascii " " ∷ decimal n ∷ [])

@@ -1,4 +1,5 @@
 -- The parts of which what is written is made: bytes that stand in the code, and what is written by another function, one law for each function of parts.rt.
+use Rattle.std.specs.Prelude.{Option}
 use Prim.Native.Nat.{ℕ}
 use mathlib.Core.Path.{◌≡◌, sym, ap, subst}
 use mathlib.Core.List.{List, [], ◌∷◌, ◌++◌, append_assoc, append-nil}
@@ -9,7 +10,6 @@ use Rattle.tokens.specs.Kind.{OPEN, CLOSE, COMMA, ASSIGN}
 use Rattle.topics.specs.Ranges.{name_in}
 use Rattle.model.specs.declared.InputRef.{InputRef}
 use Rattle.model.specs.declared.Name.{Name}
-use Rattle.model.specs.declared.Number.{Number}
 use Rattle.model.specs.declared.Ref.{Ref}
 use Rattle.model.specs.declared.Selector.{Selector}
 use Rattle.model.specs.declared.SolarEvent.{SolarEvent}
@@ -60,7 +60,7 @@ pub instance-made : (primary : ℕ) (r : Ref) (instance : ℕ) → Made (further
 unfolding chained further spelled spelled_sign instance_pieces
 instance-made primary r instance = made_of (instance_pieces primary r instance) ((Piece.sign OPEN ∷ Piece.word (ascii "dev") ∷ Piece.sign ASSIGN ∷ Piece.integer r.number ∷ []) ∷ (Piece.sign COMMA ∷ Piece.word (ascii "inst") ∷ Piece.sign ASSIGN ∷ Piece.integer instance ∷ []) ∷ (adapter_pieces primary r.adapter ++ Piece.sign CLOSE ∷ []) ∷ []) (simp (append_assoc, append-nil))
 
-pub instances-made : (primary : ℕ) (adapter : ℕ) (group : ℕ) (of : Number) → Made (further (selector_pieces primary (Selector.Group adapter group of))) ((ascii " ( group =" ++ further (Piece.integer group ∷ [])) ∷ (further (type_pieces of)) ∷ (further (adapter_pieces primary adapter ++ Piece.sign CLOSE ∷ [])) ∷ [])
+pub instances-made : (primary : ℕ) (adapter : ℕ) (group : ℕ) (of : Option ℕ) → Made (further (selector_pieces primary (Selector.Group adapter group of))) ((ascii " ( group =" ++ further (Piece.integer group ∷ [])) ∷ (further (type_pieces of)) ∷ (further (adapter_pieces primary adapter ++ Piece.sign CLOSE ∷ [])) ∷ [])
 unfolding chained further spelled spelled_sign selector_pieces
 instances-made primary adapter group of = made_of (selector_pieces primary (Selector.Group adapter group of)) ((Piece.sign OPEN ∷ Piece.word (ascii "group") ∷ Piece.sign ASSIGN ∷ Piece.integer group ∷ []) ∷ (type_pieces of) ∷ (adapter_pieces primary adapter ++ Piece.sign CLOSE ∷ []) ∷ []) (simp (append_assoc, append-nil))
 

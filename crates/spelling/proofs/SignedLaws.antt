@@ -1,57 +1,19 @@
 -- Signed numbers: how far they are from 0, and the parts that are written for them.
+use Rattle.std.specs.Prelude.{Option, Some, None}
 use Prim.Native.Nat.{ℕ, zero, suc, ◌+◌}
 use mathlib.Core.Path.{◌≡◌, refl, sym, ap, ◌∙◌, subst}
 use mathlib.Core.Bool.{true, false}
 use mathlib.Core.List.{List, [], ◌∷◌, append-nil}
 use native.Mathlib.Omega.{arith}
 use lib.Dec.{T}
-use lib.IntN.{ℤ, pos, negsuc, ◌-ℤ◌, +ℤ_comm, -ℤ_one, nat_abs}
-use lib.Signed.{lt_z, non_neg, mag}
-use mir.Syntax.{w32, w64}
-use mir.Val.{Fits, SFits, to_z, of_z}
-use mir.Facts.{to_z-of_z, sfits_widen}
+use lib.IntN.{ℤ, pos, negsuc, nat_abs}
+use lib.Signed.{lt_z}
 use borrow.Author.Tests.{ltb-true}
 use Rattle.text.specs.Literal.{ascii}
 use Rattle.tokens.specs.Kind.{PLUS, MINUS}
-use Rattle.model.specs.declared.Delta.{Delta}
 use Rattle.writing.specs.Pieces.{Piece, spelled, spelled_sign, further}
-use Rattle.spelling.specs.Put.{distance_of}
 use Rattle.writing.specs.Write.{literal_pieces, delta_pieces, offset_pieces}
 use Rattle.spelling.proofs.PutLaws.{Made, joined}
-
--- a number below 0, taken from -1 within 64 signed bits
-less-is : (z : ℤ) → lt_z z (pos 0) ≡ true → negsuc 0 -ℤ z ≡ pos (mag z)
-less-is (pos n) e = let none = ltb-true n 0 e in absurd (omega arith)
-less-is (negsuc n) e = +ℤ_comm (negsuc 0) (pos (suc n)) ∙ -ℤ_one (pos (suc n))
-
-pub less-fits : (z : ℤ) → lt_z z (pos 0) ≡ true → SFits w64 z → SFits w64 (negsuc 0 -ℤ z)
-less-fits z e h = rw (less-is z e) (record { sfits = h.sfits })
-
-pub less-held : (z : ℤ) → lt_z z (pos 0) ≡ true → SFits w64 z → to_z w64 (of_z w64 (negsuc 0 -ℤ z)) ≡ pos (mag z)
-less-held z e h = to_z-of_z (less-fits z e h) ∙ less-is z e
-
-pub not_below : (z : ℤ) → lt_z z (pos 0) ≡ false → T (non_neg z)
-not_below (pos n) e = tt
-not_below (negsuc n) e = subst T e tt
-
-pub distance-below : (z : ℤ) → lt_z z (pos 0) ≡ true → mag z + 1 ≡ distance_of z
-unfolding distance_of
-distance-below (pos n) e = let none = ltb-true n 0 e in absurd (omega arith)
-distance-below (negsuc n) e = refl
-
-pub distance-not_below : (z : ℤ) → lt_z z (pos 0) ≡ false → nat_abs z ≡ distance_of z
-unfolding distance_of
-distance-not_below (pos n) e = refl
-distance-not_below (negsuc n) e = absurd (subst T e tt)
-
--- a number of 32 signed bits is the same in 64, and its distance has 32 bits
-pub widened : {z : ℤ} → SFits w32 z → to_z w64 (of_z w64 (to_z w32 (of_z w32 z))) ≡ z
-widened {z} h = rw (to_z-of_z h) (to_z-of_z {w = w64} {z = z} (sfits_widen {w = w32} {w' = w64} tt h))
-
-pub distance-fits : {y z : ℤ} {n : ℕ} → SFits w32 z → y ≡ z → n ≡ distance_of y → Fits w32 n
-unfolding distance_of
-distance-fits {z = pos m} h e d = let k = h.sfits in let f = d ∙ ap distance_of e in record { fits = omega arith }
-distance-fits {z = negsuc m} h e d = let k = h.sfits in let f = d ∙ ap distance_of e in record { fits = omega arith }
 
 -- n below 0
 pub record Minus (z : ℤ) (n : ℕ) : Type 0 where
@@ -60,14 +22,12 @@ pub record Minus (z : ℤ) (n : ℕ) : Type 0 where
   pub far : n ≡ less + 1
 
 -- z by the test on which side of 0 it is, and by its distance, both asked of z as the machine held it
-pub is-minus : {x y z : ℤ} {n : ℕ} → x ≡ z → y ≡ z → lt_z x (pos 0) ≡ true → n ≡ distance_of y → Minus z n
-unfolding distance_of
+pub is-minus : {x y z : ℤ} {n : ℕ} → x ≡ z → y ≡ z → lt_z x (pos 0) ≡ true → n ≡ nat_abs y → Minus z n
 is-minus {z = pos m} f e t d = let none = ltb-true m 0 (rw f at t) in absurd (omega arith)
-is-minus {z = negsuc m} f e t d = record { less = m; is = refl; far = d ∙ ap distance_of e }
+is-minus {z = negsuc m} {n} f e t d = record { less = m; is = refl; far = let f : n ≡ suc m = d ∙ ap nat_abs e in omega arith }
 
-pub is-plus : {x y z : ℤ} {n : ℕ} → x ≡ z → y ≡ z → lt_z x (pos 0) ≡ false → n ≡ distance_of y → z ≡ pos n
-unfolding distance_of
-is-plus {z = pos m} f e t d = ap pos (sym (d ∙ ap distance_of e))
+pub is-plus : {x y z : ℤ} {n : ℕ} → x ≡ z → y ≡ z → lt_z x (pos 0) ≡ false → n ≡ nat_abs y → z ≡ pos n
+is-plus {z = pos m} f e t d = ap pos (sym (d ∙ ap nat_abs e))
 is-plus {z = negsuc m} f e t d = absurd (subst T (rw f at t) tt)
 
 -- a sign and what it is the sign of
@@ -89,11 +49,11 @@ module _ {z : ℤ} {n : ℕ} where
   unfolding literal_pieces joined
   literal_plus e = record { parts_of = rw (e, append-nil) }
 
-  pub added-minus : Minus z n → Made (further (delta_pieces (Delta.Is z))) (ascii " -" ∷ further (Piece.integer n ∷ []) ∷ [])
+  pub added-minus : Minus z n → Made (further (delta_pieces (Some z))) (ascii " -" ∷ further (Piece.integer n ∷ []) ∷ [])
   unfolding delta_pieces
   added-minus m = minus-made (rw (m.is, m.far))
 
-  pub added-plus : z ≡ pos n → Made (further (delta_pieces (Delta.Is z))) (ascii " +" ∷ further (Piece.integer n ∷ []) ∷ [])
+  pub added-plus : z ≡ pos n → Made (further (delta_pieces (Some z))) (ascii " +" ∷ further (Piece.integer n ∷ []) ∷ [])
   unfolding delta_pieces
   added-plus e = plus-made (rw e)
 
@@ -107,15 +67,15 @@ offset-plus {n = zero} e h = absurd (h refl)
 offset-plus {n = suc n} e h = plus-made (rw e)
 
 -- nothing where nothing is added, and for an offset of 0
-pub no-delta : {d : Delta} → d ≡ Delta.Absent → further (delta_pieces d) ≡ []
+pub no-delta : {d : Option ℤ} → d ≡ None → further (delta_pieces d) ≡ []
 unfolding further delta_pieces
 no-delta e = rw e
 
-pub no-offset : {y z : ℤ} {n : ℕ} → y ≡ z → n ≡ distance_of y → n ≡ 0 → further (offset_pieces z) ≡ []
-unfolding further offset_pieces distance_of
+pub no-offset : {y z : ℤ} {n : ℕ} → y ≡ z → n ≡ nat_abs y → n ≡ 0 → further (offset_pieces z) ≡ []
+unfolding further offset_pieces
 no-offset {y = pos m} e d h = let none : m ≡ 0 = sym d ∙ h in rw (← e, none)
 no-offset {y = negsuc m} e d h = absurd (omega arith)
 
-pub delta-made : {d : Delta} {y z : ℤ} → d ≡ Delta.Is y → z ≡ y → Made (further (delta_pieces d)) (further (delta_pieces (Delta.Is z)) ∷ [])
+pub delta-made : {d : Option ℤ} {y z : ℤ} → d ≡ Some y → z ≡ y → Made (further (delta_pieces d)) (further (delta_pieces (Some z)) ∷ [])
 unfolding joined
 delta-made d e = record { parts_of = rw (d, e, append-nil) }

@@ -1,5 +1,5 @@
 -- How the code writes: bytes from an offset on, each token behind a space. Nothing here need be believed.
-use Rattle.std.specs.Prelude.{ℕ, ◌+◌, ◌≤◌, ◌≡◌, Bool, true, false, List, [], ◌∷◌, ◌++◌, eqb, ℤ, pos, negsuc, length}
+use Rattle.std.specs.Prelude.{ℕ, ◌+◌, ◌≤◌, ◌≡◌, Bool, true, false, List, [], ◌∷◌, ◌++◌, eqb, length}
 use Rattle.std.proofs.lemmas.List.Edits.{sets}
 use Rattle.text.specs.Choice.{pick}
 use Rattle.text.specs.Literal.{ascii}
@@ -14,11 +14,6 @@ pub record Put (before : List ℕ) (from : ℕ) (bytes after : List ℕ) (to : �
 -- there is room for them
 pub record Fits (buffer : List ℕ) (from : ℕ) (bytes : List ℕ) : Type 0 where
   pub room : from + length bytes ≤ length buffer
-
--- how far a number is from 0
-unfoldable pub distance_of : ℤ → ℕ
-distance_of (pos n) = n
-distance_of (negsuc n) = n + 1
 
 -- a day of the week by its number, from Monday on
 unfoldable pub day_name : ℕ → List ℕ

@@ -19,20 +19,16 @@ pub fn put_decimal(out: &mut [u8], at: usize, n: u64) -> usize
     ensures { Put out.old at (decimal n) out.new result }
 {
     let mut digits = [0u8; 10];
-    let mut first: usize = 9;
     let mut rest = n;
-    loop {
+    for i in 0..10 {
+        let first = 9 - i;
         digits[first] = digit(rest);
-        if rest < 10 {
-            break;
+        rest /= 10;
+        if rest == 0 {
+            return put(out, at, &digits[first..]);
         }
-        if first == 0 {
-            break;
-        }
-        rest = rest / 10;
-        first -= 1;
     }
-    put(out, at, &digits[first..])
+    put(out, at, &digits)
 }
 
 pub fn put_number(out: &mut [u8], at: usize, n: u64) -> usize

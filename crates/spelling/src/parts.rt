@@ -9,7 +9,7 @@ ghost use Rattle.topics.specs.Ranges.{name_in};
 use crate::numbers::{put_number, put_time};
 use crate::put::{put, put_string};
 use crate::signed::put_offset;
-use model::{InputRef, LightTarget, Name, Number, Ref, Selector, SolarEvent, TimeBound};
+use model::{InputRef, LightTarget, Name, Ref, Selector, SolarEvent, TimeBound};
 
 // Some bytes, and a number.
 pub fn put_argument(out: &mut [u8], at: usize, before: &[u8], n: u32) -> usize
@@ -31,13 +31,13 @@ fn put_adapter(out: &mut [u8], at: usize, primary: u32, adapter: u32) -> usize
     put_argument(out, at, b" , adapter =", adapter)
 }
 
-fn put_type(out: &mut [u8], at: usize, of: Number) -> usize
+fn put_type(out: &mut [u8], at: usize, of: Option<u32>) -> usize
     requires { Fits out.old at (further (type_pieces of)) }
     ensures { Put out.old at (further (type_pieces of)) out.new result }
 {
     match of {
-        Number::Absent => return at,
-        Number::Is(n) => return put_argument(out, at, b" , type =", n),
+        None => at,
+        Some(n) => put_argument(out, at, b" , type =", n),
     }
 }
 
@@ -94,7 +94,7 @@ fn put_instances(
     primary: u32,
     adapter: u32,
     group: u32,
-    of: Number,
+    of: Option<u32>,
 ) -> usize
     requires { Fits out.old at (further (selector_pieces primary (Selector.Group adapter group of))) }
     ensures { Put out.old at (further (selector_pieces primary (Selector.Group adapter group of))) out.new result }
@@ -144,8 +144,8 @@ fn put_solar_event(out: &mut [u8], at: usize, event: SolarEvent) -> usize
     ensures { Put out.old at (further (Piece.word (solar_word event) ∷ [])) out.new result }
 {
     match event {
-        SolarEvent::Sunrise => return put(out, at, b" sunrise"),
-        SolarEvent::Sunset => return put(out, at, b" sunset"),
+        SolarEvent::Sunrise => put(out, at, b" sunrise"),
+        SolarEvent::Sunset => put(out, at, b" sunset"),
     }
 }
 
@@ -163,10 +163,8 @@ pub fn put_selector(out: &mut [u8], at: usize, primary: u32, s: Selector) -> usi
     ensures { Put out.old at (further (selector_pieces primary s)) out.new result }
 {
     match s {
-        Selector::Instance(r, n) => return put_instance(out, at, primary, r, n),
-        Selector::Group(adapter, group, of) => return put_instances(
-            out, at, primary, adapter, group, of,
-        ),
+        Selector::Instance(r, n) => put_instance(out, at, primary, r, n),
+        Selector::Group(adapter, group, of) => put_instances(out, at, primary, adapter, group, of),
     }
 }
 
@@ -175,9 +173,9 @@ pub fn put_target(out: &mut [u8], at: usize, primary: u32, to: LightTarget) -> u
     ensures { Put out.old at (further (target_pieces primary to)) out.new result }
 {
     match to {
-        LightTarget::Lamp(r) => return put_reference(out, at, b" lamp", primary, r),
-        LightTarget::Group(r) => return put_reference(out, at, b" group", primary, r),
-        LightTarget::Broadcast(_) => return put(out, at, b" broadcast"),
+        LightTarget::Lamp(r) => put_reference(out, at, b" lamp", primary, r),
+        LightTarget::Group(r) => put_reference(out, at, b" group", primary, r),
+        LightTarget::Broadcast(_) => put(out, at, b" broadcast"),
     }
 }
 
@@ -186,7 +184,7 @@ pub fn put_bound(out: &mut [u8], at: usize, bound: TimeBound) -> usize
     ensures { Put out.old at (further (bound_pieces bound)) out.new result }
 {
     match bound {
-        TimeBound::Clock(m) => return put_time(out, at, m),
-        TimeBound::Solar(event, offset) => return put_solar(out, at, event, offset),
+        TimeBound::Clock(m) => put_time(out, at, m),
+        TimeBound::Solar(event, offset) => put_solar(out, at, event, offset),
     }
 }

@@ -43,14 +43,11 @@ pub fn put_days(out: &mut [u8], at: usize, days: Days) -> usize
     let mut end = at;
     let mut some = false;
     let mut left = days.sum;
-    let mut d: u32 = 0;
-    while d < 7 {
-        let day = d;
+    for d in 0..7 {
         let bit = left % 2;
-        left = left / 2;
-        d += 1;
+        left /= 2;
         if bit == 1 {
-            end = put_next(out, end, some, day);
+            end = put_next(out, end, some, d);
             some = true;
         }
     }

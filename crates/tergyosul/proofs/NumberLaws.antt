@@ -1,5 +1,6 @@
 -- No answer has the number `no_room`: the result of `tergyosul_read`, of `tergyosul_read_archive`, of `tergyosul_read_shop`, of `tergyosul_join`, of `tergyosul_write`, of
 -- `tergyosul_rows`, of `tergyosul_rows_back` or of `tergyosul_next_chain` is that number just where there is no room.
+use Rattle.std.specs.Prelude.{Option, Some, None, Result, Ok, Err}
 use Prim.Native.Nat.{ℕ, ◌+◌, ◌<◌, ◌≤◌}
 use native.Mathlib.Omega.{arith}
 use mathlib.Core.Path.{◌≡◌, refl}
@@ -8,23 +9,23 @@ use mathlib.Core.List.{List, [], ◌∷◌}
 use lib.ListN.{length}
 use lib.Dec.{ltb, eqb}
 use borrow.Author.Tests.{ltb-true}
+use Rattle.std.specs.Prelude.{Result, Ok, Err}
 use Rattle.text.specs.Choice.{pick, within}
 use Rattle.text.proofs.Tests.{picked}
 use Rattle.text.specs.Utf8.{Character}
 use Rattle.text.specs.Place.{check_of}
-use Rattle.text.specs.declared.place.Checked.{Checked}
-use Rattle.text.specs.declared.place.Checked.TheVariants.{WellFormed, IllFormed}
+use Rattle.text.specs.declared.place.IllFormed.{IllFormed}
 use Rattle.tokens.specs.Result.{Res, ok, no}
 use Rattle.tokens.specs.Lexing.{Lexing, most_bytes, least_words}
 use Rattle.tokens.specs.Lex.{lex_text}
 use Rattle.tokens.specs.Layout.{Laid, end, refusal, next, Lexical}
 use Rattle.tokens.proofs.LayoutLaws.{laid}
+use Rattle.model.specs.declared.Ref.{Ref}
 use Rattle.sheet.specs.Sheet.{Sheet, Entry, well_formed, bad_line_rule, sheet_check, lines}
 use Rattle.sheet.specs.View.{View, seen, own_primary}
 use Rattle.sheet.specs.Resolve.{elsewhere, none_of, chosen, pick_named}
 use Rattle.sheet.specs.declared.Call.{Call}
-use Rattle.sheet.specs.declared.resolve.Found.{Found}
-use Rattle.sheet.specs.declared.resolve.Found.TheVariants.{One, Refused}
+use Rattle.sheet.specs.declared.resolve.Unfound.{Unfound}
 use Rattle.sheet.specs.declared.resolve.Scope.{Scope}
 use Rattle.model.specs.Lists.{accepted_with, refused_with}
 use Rattle.model.specs.declared.Condition.{Condition}
@@ -49,7 +50,6 @@ use Rattle.old_rows.specs.Convert.{Conversion, converted, stopped}
 use Rattle.old_rows.specs.Back as rows_back
 use Rattle.old_rows.specs.declared.row.Change.{Change}
 use Rattle.old_rows.specs.declared.row.Row.{Row}
-use Rattle.old_rows.specs.declared.row.Row.TheVariants.{Says, Malformed}
 use Rattle.tergyosul.specs.Chains.{chain_answer_words}
 use Rattle.tergyosul.specs.Room.{no_room, by_room}
 use Rattle.tergyosul.specs.Writing.{write_answer_words}
@@ -106,10 +106,10 @@ module _ (call : Call) (text sheet : List ℕ) (lent : List (List ℕ)) (words :
   own-known true = lexed-known text (seen call sheet) lent (lex_text text) (lex_text text) (laid text)
   own-known false = omega arith
 
-  text-known : (own : Bool) (c : Checked) → Known (by_text text (seen call sheet) lent words own c).answer.number
+  text-known : (own : Bool) (c : Result Unit IllFormed) → Known (by_text text (seen call sheet) lent words own c).answer.number
   unfolding by_text refused_with
-  text-known own WellFormed = own-known own
-  text-known own (IllFormed line column) = omega arith
+  text-known own (Ok _) = own-known own
+  text-known own (Err at) = omega arith
 
   sheet-known : (own : Bool) (x : Sheet) → Known (by_sheet text (seen call sheet) lent words own x).answer.number
   unfolding by_sheet refused_with
@@ -210,9 +210,9 @@ module _ (party primary : ℕ) (first second sheet : List ℕ) (l : written.List
   no-write-alone answer e = alone write_answer_words answer _ (let known = write_known in omega arith) e
 
 -- rows say 3, 25, 31 to 34, 53 or 60
-unfoldable FoundKnown : Found → Type 0
-FoundKnown (One adapter number) = Unit {0}
-FoundKnown (Refused number detail) = Known number
+unfoldable FoundKnown : Result Ref Unfound → Type 0
+FoundKnown (Ok r) = Unit {0}
+FoundKnown (Err u) = Known u.number
 
 unfoldable ConversionKnown : Conversion → Type 0
 ConversionKnown (converted xs) = Unit {0}
@@ -230,10 +230,10 @@ unfolding rows.onto ConversionKnown
 onto-known x (converted xs) h = tt
 onto-known x (stopped number row detail) h = h
 
-by_found-known : (n : ℕ) (change : Change) (f : Found) (others : Conversion) → FoundKnown f → ConversionKnown others → ConversionKnown (rows.by_found n change f others)
+by_found-known : (n : ℕ) (change : Change) (f : Result Ref Unfound) (others : Conversion) → FoundKnown f → ConversionKnown others → ConversionKnown (rows.by_found n change f others)
 unfolding rows.by_found FoundKnown ConversionKnown
-by_found-known n change (One adapter number) others h k = onto-known _ others k
-by_found-known n change (Refused number detail) others h k = h
+by_found-known n change (Ok r) others h k = onto-known _ others k
+by_found-known n change (Err u) others h k = h
 
 answered-known : (c : Conversion) → ConversionKnown c → Known (rows.answered c).number
 unfolding rows.answered ConversionKnown accepted_with refused_with
@@ -245,10 +245,10 @@ module _ (view : View) where
   unfolding rows.found_of pick_named FoundKnown
   found_of-known change scope name = picked FoundKnown (rows.is_seen view scope) (λ _. chosen-known _ _) (λ _. omega arith)
 
-  found_in-known : (r : Row) (name : List ℕ) → FoundKnown (rows.found_in view r name)
+  found_in-known : (r : Option Row) (name : List ℕ) → FoundKnown (rows.found_in view r name)
   unfolding rows.found_in FoundKnown
-  found_in-known (Says change scope) name = found_of-known change scope name
-  found_in-known Malformed name = omega arith
+  found_in-known (Some row) name = found_of-known row.change row.scope name
+  found_in-known None name = omega arith
 
   convert-known : (n : ℕ) (ls : List (List ℕ)) → ConversionKnown (rows.convert_from view n ls)
   unfolding rows.convert_from ConversionKnown

@@ -1,9 +1,9 @@
 -- The lists of an answer's words, which are taken out entry by entry, and the five words of an answer.
-use Prim.Native.Nat.{ℕ, zero, suc, ◌+◌, ◌*◌, ◌<◌, ◌≤◌}
+use Prim.Native.Nat.{ℕ, ◌+◌, ◌*◌, ◌<◌, ◌≤◌}
 use native.Mathlib.Omega.{arith}
 use native.Mathlib.Numerals.{add-one}
-use mathlib.Core.Path.{◌≡◌, refl, ◌∙◌, sym}
-use mathlib.Core.List.{List, [], ◌∷◌}
+use mathlib.Core.Path.{◌≡◌, ◌∙◌, sym}
+use mathlib.Core.List.{List}
 use lib.ListN.{length, get_or, set, take, drop}
 use lib.Seq.{take-suc, take-suc-set, take_all, get_or-drop}
 use borrow.Author.Tests.{lt-ltb, le-ltb}
@@ -25,14 +25,6 @@ module _ {A : Type 0} {n : ℕ} (all a : List A) (i : ℕ) (whole : length all �
   pub all-filled : n ≤ i → a ≡ all
   all-filled h = rw (take_all i a (rw size h), take_all i all (rw whole h)) at here
 
--- a list that is written out
-pub four-at : {A : Type 0} (f : ℕ → A) (d : A) (i : ℕ) → i < 4 → f i ≡ get_or (f 0 ∷ f 1 ∷ f 2 ∷ f 3 ∷ []) i d
-four-at f d zero h = refl
-four-at f d (suc zero) h = refl
-four-at f d (suc (suc zero)) h = refl
-four-at f d (suc (suc (suc zero))) h = refl
-four-at f d (suc (suc (suc (suc i)))) h = absurd (omega arith)
-
 module _ (words : List ℕ) (row : ℕ) where
   pub row-length : length (row_in words row) ≡ row_words
   unfolding row_in whole_row
@@ -46,9 +38,9 @@ pub unwritten : (w : Written) (e : List ℕ) → length e < write_answer_words �
 unfolding written_flat
 unwritten w e h = no_room_lem write_answer_words e e _ h
 
-pub five-written : {a : List ℕ} (w : Written) (e : List ℕ) → write_answer_words ≤ length e →
+pub five_written : {a : List ℕ} (w : Written) (e : List ℕ) → write_answer_words ≤ length e →
     a ≡ four_first e w.number w.line w.column w.detail → set a 4 w.length ≡ written_flat w e
 unfolding written_flat four_first by_room
-five-written w e room four =
+five_written w e room four =
     let enough : 4 ≤ length e = omega arith in
     rw (four, le-ltb _ _ enough, le-ltb _ _ room)

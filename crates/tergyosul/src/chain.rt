@@ -24,10 +24,8 @@ fn put_chain(answer: &mut [u32], c: Chain)
     }
     crate::put_four(answer, c.number, 0, 0, 0);
     answer[COUNT] = text::place::held(c.count);
-    let mut i: usize = 0;
-    while i < MOST_PIECES {
-        answer[FIRST_PIECE + i] = c.pieces[i] as u32;
-        i += 1;
+    for i in 0..MOST_PIECES {
+        answer[FIRST_PIECE + i] = u32::from(c.pieces[i]);
     }
 }
 

@@ -12,13 +12,11 @@ use join::Joined;
 pub const WHICH: usize = 6;
 
 // The text of the conditions: the first, if there are any.
+#[tactic(auto, unfolding(crate::specs::Joining::conditions_from))]
 fn conditions_from(j: Joined) -> u32
     ensures { result ≡ conditions_from j }
 {
-    if j.answer.conditions.count == 0 {
-        return 0;
-    }
-    1
+    if j.answer.conditions.count == 0 { 0 } else { 1 }
 }
 
 // Writes the answer. Where there is no room for all of it nothing is written.

@@ -18,7 +18,6 @@ ghost use Rattle.tergyosul.specs.Room.{no_room, lex_answer_words, by_room};
 ghost use Rattle.flat.specs.Flat.{answer_words, flat};
 
 use sheet::{Call, Habit};
-use tokens::lexer::Lexed;
 
 // The result of a call that has no room for its answer. It is no refusal's number.
 const NO_ROOM: u32 = 4294967295;
@@ -50,23 +49,20 @@ pub fn tergyosul_lex(text: &[u8], words: &mut [u32], answer: &mut [u32]) -> u32
     if answer.len() < LEX_WORDS {
         return NO_ROOM;
     }
-    let lexed = tokens::lexer::lex(text, words);
-    match lexed {
-        Lexed::Tokens {
-            count,
-            line,
-            column,
-        } => {
-            put_four(answer, 0, line, column, text::place::held(count));
+    match tokens::lexer::lex(text, words) {
+        Ok(lexed) => {
+            put_four(
+                answer,
+                0,
+                lexed.line,
+                lexed.column,
+                text::place::held(lexed.count),
+            );
             0
         }
-        Lexed::Refused {
-            number,
-            line,
-            column,
-        } => {
-            put_four(answer, number, line, column, 0);
-            number
+        Err(refusal) => {
+            put_four(answer, refusal.number, refusal.line, refusal.column, 0);
+            refusal.number
         }
     }
 }
@@ -95,6 +91,7 @@ fn read_by(
 // Reads a rule text with a name sheet and the lent topics of earlier rules, for a party, with its own primary adapter. The result is 0, or the number of the refusal; answer gets the
 // whole answer. If it has no room for that, nothing is read or written, and the result is NO_ROOM. The words are lent for the records of the
 // tokens: at least 5,120. A repeated argument of `input(` is refused.
+#[tactic(auto, unfolding(language::specs::Read::rule_call))]
 pub fn tergyosul_read(
     text: &[u8],
     sheet: &[u8],
@@ -123,6 +120,7 @@ pub fn tergyosul_read(
 }
 
 // The archive loader's call: the same, but that a repeated argument of `input(` replaces the earlier one.
+#[tactic(auto, unfolding(language::specs::Read::archive_call))]
 pub fn tergyosul_read_archive(
     text: &[u8],
     sheet: &[u8],
@@ -151,6 +149,7 @@ pub fn tergyosul_read_archive(
 }
 
 // The shop's call: what `tergyosul_read` answers, less the forms that the profile leaves out, which are refused with 57, 58 and 59.
+#[tactic(auto, unfolding(language::specs::Read::shop_call))]
 pub fn tergyosul_read_shop(
     text: &[u8],
     sheet: &[u8],

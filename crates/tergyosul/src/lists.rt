@@ -22,6 +22,7 @@ const CONDITIONS_FROM: usize = TRIGGERS_FROM + flat::LIST_ROWS;
 const NO_TEXT: u32 = 0;
 
 // A trigger from its row, whose names stand in the text `from`. Of words that are no trigger's row it is one that stands in no text.
+#[tactic(auto, unfolding(crate::specs::Writing::trigger_from))]
 pub fn trigger_from(from: u32, row: Row) -> TriggerFrom
     ensures { result ≡ trigger_from from row }
 {
@@ -38,6 +39,7 @@ pub fn trigger_from(from: u32, row: Row) -> TriggerFrom
 }
 
 // The same of a condition.
+#[tactic(auto, unfolding(crate::specs::Writing::condition_from))]
 pub fn condition_from(from: u32, row: Row) -> ConditionFrom
     ensures { result ≡ condition_from from row }
 {
@@ -57,10 +59,7 @@ pub fn condition_from(from: u32, row: Row) -> ConditionFrom
 fn word_in(words: &[u32], i: usize) -> u32
     ensures { result ≡ word words.now i }
 {
-    if i < words.len() {
-        return words[i];
-    }
-    0
+    words.get(i).copied().unwrap_or(0)
 }
 
 // A row; words past the end are 0.
@@ -70,25 +69,22 @@ fn row_in(words: &[u32], row: usize) -> Row
 {
     let at = row * ROW_WORDS;
     let mut out = [0; ROW_WORDS];
-    let mut i = 0;
-    while i < ROW_WORDS {
+    for i in 0..ROW_WORDS {
         out[i] = word_in(words, at + i);
-        i += 1;
     }
     out
 }
 
 // The text that a word of row 0 names: the first, where it names none.
+#[tactic(auto, unfolding(crate::specs::Writing::text_said))]
 fn text_said(n: u32) -> u32
     ensures { result ≡ text_said n }
 {
-    if n == 0 {
-        return 1;
-    }
-    n
+    if n == 0 { 1 } else { n }
 }
 
 // The trigger with an index.
+#[tactic(auto, unfolding(crate::specs::Writing::trigger_in, flat::specs::Flat::list_rows, flat::specs::Flat::first_trigger, flat::specs::Flat::first_condition, flat::specs::Flat::row_count))]
 fn trigger_in(words: &[u32], i: usize) -> TriggerFrom
     requires { i < list_rows }
     ensures { result ≡ trigger_in words.now i }
@@ -97,6 +93,7 @@ fn trigger_in(words: &[u32], i: usize) -> TriggerFrom
     trigger_from(from, row_in(words, flat::FIRST_TRIGGER + i))
 }
 
+#[tactic(auto, unfolding(crate::specs::Writing::condition_in, flat::specs::Flat::list_rows, flat::specs::Flat::first_trigger, flat::specs::Flat::first_condition, flat::specs::Flat::row_count))]
 fn condition_in(words: &[u32], i: usize) -> ConditionFrom
     requires { i < list_rows }
     ensures { result ≡ condition_in words.now i }
@@ -105,43 +102,38 @@ fn condition_in(words: &[u32], i: usize) -> ConditionFrom
     condition_from(from, row_in(words, flat::FIRST_CONDITION + i))
 }
 
+#[tactic(auto, unfolding(crate::specs::Writing::triggers_in, flat::specs::Flat::list_rows))]
 fn triggers_in(words: &[u32]) -> TriggersFrom
     ensures { result ≡ triggers_in words.now }
 {
-    let mut rows = [TriggerFrom {
-        from: NO_TEXT,
-        trigger: Trigger::HttpTrigger,
-    }; 4];
-    let mut i = 0;
-    while i < flat::LIST_ROWS {
-        rows[i] = trigger_in(words, i);
-        i += 1;
-    }
     TriggersFrom {
-        rows,
+        rows: [
+            trigger_in(words, 0),
+            trigger_in(words, 1),
+            trigger_in(words, 2),
+            trigger_in(words, 3),
+        ],
         count: word_in(words, TRIGGER_COUNT),
     }
 }
 
+#[tactic(auto, unfolding(crate::specs::Writing::conditions_in, flat::specs::Flat::list_rows))]
 fn conditions_in(words: &[u32]) -> ConditionsFrom
     ensures { result ≡ conditions_in words.now }
 {
-    let mut rows = [ConditionFrom {
-        from: NO_TEXT,
-        condition: Condition::ControllerActive,
-    }; 4];
-    let mut i = 0;
-    while i < flat::LIST_ROWS {
-        rows[i] = condition_in(words, i);
-        i += 1;
-    }
     ConditionsFrom {
-        rows,
+        rows: [
+            condition_in(words, 0),
+            condition_in(words, 1),
+            condition_in(words, 2),
+            condition_in(words, 3),
+        ],
         count: word_in(words, CONDITION_COUNT),
     }
 }
 
 // Both lists. Rows past a count may be anything.
+#[tactic(auto, unfolding(crate::specs::Writing::lists_in))]
 pub fn lists_in(words: &[u32]) -> Lists
     ensures { result ≡ lists_in words.now }
 {
@@ -152,11 +144,11 @@ pub fn lists_in(words: &[u32]) -> Lists
 }
 
 // A trigger without the text of its name.
+#[tactic(auto, unfolding(crate::specs::Converting::without_text))]
 fn without_text(x: TriggerFrom) -> TriggerRow
     ensures { result ≡ without_text x }
 {
-    let trigger = x.trigger;
-    TriggerRow { trigger }
+    TriggerRow { trigger: x.trigger }
 }
 
 pub fn without_texts(t: TriggersFrom) -> Triggers
@@ -181,6 +173,7 @@ pub fn triggers_alone(words: &[u32]) -> Triggers
 }
 
 // How many conditions there are.
+#[tactic(auto, unfolding(crate::specs::Converting::condition_count))]
 pub fn condition_count(words: &[u32]) -> usize
     ensures { result ≡ condition_count words.now }
 {

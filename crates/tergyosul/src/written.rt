@@ -10,6 +10,7 @@ use writing::Written;
 pub const WRITE_WORDS: usize = 5;
 
 // Writes an answer. Where there is no room for all of it nothing is written.
+#[tactic(auto, using(crate::proofs::WritingLaws::unwritten, crate::proofs::WritingLaws::five_written))]
 pub fn put_written(answer: &mut [u32], w: Written)
     ensures { answer.new ≡ written_flat w answer.old }
 {

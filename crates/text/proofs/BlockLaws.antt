@@ -1,15 +1,16 @@
 -- Laws on rows of bytes that all pass a test, and on the blocks of eight that make such a row up.
 use mathlib.Core.Path.{◌≡◌, ◌∙◌, refl, ap, sym}
-use mathlib.Core.Bool.{Bool, true, false, not, ◌||◌}
+use mathlib.Core.Bool.{Bool, true, false, not, ◌||◌, ◌&&◌}
 use mathlib.Core.List.{List, [], ◌∷◌, ◌++◌}
 use Prim.Native.Nat.{ℕ, zero, suc, ◌+◌, ◌-◌, ◌^◌, ◌<◌, ◌≤◌}
 use native.Mathlib.Omega.{arith}
 use native.Mathlib.Nat.{add-zero}
 use native.Mathlib.Numerals.{add-one}
 use lib.ListN.{length, get_or, take, drop, length-drop}
-use lib.Seq.{take-suc, take-add, drop-cons, drop-drop, get_or-drop}
+use Rattle.std.proofs.lemmas.List.{get_or-take, length-take}
+use lib.Seq.{take_all, take-suc, take-add, drop-cons, drop-drop, get_or-drop}
 use lib.Dec.{ltb, leb}
-use mir.Syntax.{w64}
+use mir.Syntax.{w8, w64}
 use mir.Val.{Fits}
 use borrow.Author.Rules.{rules}
 use borrow.Author.Tests.{leb-true, leb-false, lt-ltb, le-ltb, le-leb, lt-leb}
@@ -17,7 +18,7 @@ use Rattle.text.specs.Choice.{pick}
 use Rattle.text.specs.Part.{part_of}
 use Rattle.text.specs.Block.{every, block, Row}
 use Rattle.text.proofs.Tests.{both}
-use Rattle.text.proofs.PartLaws.{part_none}
+use Rattle.text.proofs.PartLaws.{part_none, and-pick}
 
 -- ---- tests
 
@@ -55,10 +56,16 @@ module _ (p : ℕ → Bool) where
   every_append [] b = refl
   every_append (c ∷ a) b = rw (every_append a b) (pick-pick (p c) (every p a) (every p b))
 
-  every-last : (l : List ℕ) (n : ℕ) → n < length l →
+  pub every-last : (l : List ℕ) (n : ℕ) → n < length l →
       every p (take (suc n) l) ≡ pick (every p (take n l)) (pick (p (get_or l n 0)) true false) false
   unfolding every
   every-last l n h = ap (every p) (take-suc l n 0 h) ∙ every_append (take n l) (get_or l n 0 ∷ [])
+
+  -- one byte more
+  pub every-next : (l : List ℕ) (n : ℕ) {a r : Bool} → n < length l → a ≡ every p (take n l) → r ≡ p (get_or l n 0) →
+      (a && r) ≡ every p (take (n + 1) l)
+  every-next l n {a} {r} h e f =
+      rw (add-one, every-last l n h, ← e, ← f) (and-pick a r ∙ ap (λ (u : Bool). pick a u false) (pick_true r))
 
   -- a row that goes on with another
   every-on : (s : List ℕ) (from at end : ℕ) → from ≤ at → at ≤ end → every p (part_of s from at) ≡ true →
@@ -117,6 +124,21 @@ module _ (p q : ℕ → Bool) (opposite : (b : ℕ) → not (q b) ≡ p b) where
   eight s at h =
       let m : at + 8 - at ≡ 8 = omega arith in
       rw (le-leb (at + 8) (length s) h, m) (some-every s at 7 (omega arith))
+
+-- eight bytes that are there are a block where they all pass
+pub block-here : (p : ℕ → Bool) (s : List ℕ) (at n : ℕ) {a : Bool} → at + 8 ≤ length s → length (part_of s at (at + 8)) ≤ n →
+    a ≡ every p (take n (part_of s at (at + 8))) → a ≡ block p s at
+unfolding block
+block-here p s at n h k e = e ∙ rw (take_all n (part_of s at (at + 8)) k, le-leb (at + 8) (length s) h)
+
+-- a byte of a part is a byte
+pub part-byte : (s : List ℕ) (start end n : ℕ) → ((i : ℕ) → Fits w8 (get_or s i 0)) → n < length (part_of s start end) →
+    get_or (part_of s start end) n 0 < 256
+unfolding part_of
+part-byte s start end n f h =
+    let k : n < end - start = omega (arith, simp length-take at h) in
+    let e : get_or (take (end - start) (drop start s)) n 0 ≡ get_or s (start + n) 0 = get_or-take (end - start) (drop start s) n 0 k ∙ get_or-drop start s n 0 in
+    rw e (f (start + n)).fits
 
 -- where eight bytes are not left there is no block
 pub block-past : (p : ℕ → Bool) (s : List ℕ) (at : ℕ) → length s < at + 8 → false ≡ block p s at

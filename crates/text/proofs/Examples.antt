@@ -5,7 +5,7 @@ use Prim.Native.Nat.{ℕ, ◌+◌, ◌-◌}
 use Rattle.text.specs.Utf8.{codes, chars, chars_from, front, sized, sequence_length, two, three, four, is_tail, is_second}
 use Rattle.text.specs.White.{Range, white_space}
 use Rattle.text.specs.Place.{check_of, judge, walked, after, counted}
-use Rattle.text.specs.declared.place.Checked.TheVariants.{IllFormed}
+use Rattle.std.specs.Prelude.{Err}
 
 -- A, not identical to, Alpha, full stop
 section_7_first : codes (chars (0x41 ∷ 0xE2 ∷ 0x89 ∷ 0xA2 ∷ 0xCE ∷ 0x91 ∷ 0x2E ∷ []) 0) ≡ 0x0041 ∷ 0x2262 ∷ 0x0391 ∷ 0x002E ∷ []
@@ -28,7 +28,7 @@ unfolding chars chars_from front sized sequence_length three four is_tail is_sec
 section_7_fourth = refl
 
 -- the overlong form of U+0000, behind é and LF: the place is counted in characters
-overlong_null : check_of (0xC3 ∷ 0xA9 ∷ 0x0A ∷ 0xC3 ∷ 0xA9 ∷ 0xC0 ∷ 0x80 ∷ []) ≡ IllFormed 2 2
+overlong_null : check_of (0xC3 ∷ 0xA9 ∷ 0x0A ∷ 0xC3 ∷ 0xA9 ∷ 0xC0 ∷ 0x80 ∷ []) ≡ Err (record { line = 2; column = 2 })
 unfolding check_of judge walked after counted chars chars_from front sized sequence_length two is_tail
 overlong_null = refl
 

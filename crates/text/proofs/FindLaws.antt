@@ -2,14 +2,18 @@
 use mathlib.Core.Path.{ap, ◌≡◌, refl, ◌∙◌}
 use mathlib.Core.Bool.{Bool, true, false}
 use mathlib.Core.List.{List, [], ◌∷◌}
-use Prim.Native.Nat.{zero, ℕ, suc, ◌+◌, ◌<◌, ◌≤◌}
+use Prim.Native.Nat.{zero, ℕ, suc, ◌+◌, ◌-◌, ◌<◌, ◌≤◌}
 use native.Mathlib.Omega.{arith}
 use native.Mathlib.Nat.{add-zero}
 use native.Mathlib.Numerals.{add-one}
-use lib.ListN.{length, drop, get_or, length-drop, drop_of_length-le}
-use lib.Seq.{drop-cons}
+use lib.ListN.{length, take, drop, get_or, length-drop, drop_of_length-le}
+use lib.Seq.{drop-cons, take_all}
 use lib.Dec.{ltb, eqb}
 use borrow.Author.Tests.{eqb-true, ltb-true, ltb-false, eq-eqb, ne_eqb}
+use Rattle.std.specs.Prelude.{Option, Some, None}
+use Rattle.std.specs.Option.{MatchOption, unwrap_or}
+use Rattle.std.specs.List.{AllWithin, HoldsAt}
+use Rattle.std.proofs.lemmas.Iterator.{index_from_first}
 use Rattle.text.specs.Find.{index_of, index_after}
 use Rattle.text.proofs.Tests.{picked, lt_no}
 use Rattle.text.specs.Find.{first_at}
@@ -94,3 +98,34 @@ first-same b s at (suc n) h =
     let e : at + suc n ≡ at + n + 1 = omega arith in
     rw e
     (first_next b s (at + n) (omega arith) (λ is. let f = first-here b s (at + n) (omega arith) is in omega arith) ∙ k)
+
+-- what `position` says of the bytes from an offset on
+abbrev pub Found : ℕ → List ℕ → Option ℕ → Type 0
+Found b l r =
+    MatchOption r (AllWithin (λ x. x ≡ b → ⊥) l 0 (length l))
+    (λ i. (i < length l) × HoldsAt (λ x. x ≡ b) l i × AllWithin (λ x. x ≡ b → ⊥) l 0 i)
+
+index-by : (b : ℕ) (l : List ℕ) (r : Option ℕ) → Found b l r → index_of b l ≡ unwrap_or r (length l)
+unfolding index_of index_after
+index-by b l r h =
+    index_from_first (index_of b) (λ x. x ≡ b) (λ x. x ≡ b → ⊥) refl (λ x xs e. rw (eq-eqb x b e))
+    (λ x xs n. rw (ne_eqb x b n, add-one)) l r h
+
+-- the bytes from an offset on, as a slice of them gives them
+abbrev pub behind : List ℕ → ℕ → List ℕ
+behind s from = take (length s - from) (drop from s)
+
+rest : (s : List ℕ) (from : ℕ) → behind s from ≡ drop from s
+rest s from = take_all (length s - from) (drop from s) (simp length-drop (omega arith))
+
+pub first-some : (b : ℕ) (s : List ℕ) (from : ℕ) → from ≤ length s → {r : Option ℕ} → Found b (behind s from) r → {i : ℕ} → r ≡ Some i →
+    from + i ≡ first_at b s from
+first-some b s from h f {i} g =
+    let k : index_of b (behind s from) ≡ i = index-by b (behind s from) (Some i) (rw g at f) in
+    rw (first-is b s from h, ← (rest s from), k)
+
+pub first-none : (b : ℕ) (s : List ℕ) (from : ℕ) → from ≤ length s → {r : Option ℕ} → Found b (behind s from) r → r ≡ None →
+    length s ≡ first_at b s from
+first-none b s from h f g =
+    let k : index_of b (behind s from) ≡ length (behind s from) = index-by b (behind s from) None (rw g at f) in
+    rw (first-is b s from h, ← (rest s from), k, rest s from) (simp length-drop (omega arith))

@@ -2,8 +2,9 @@
 use mathlib.Core.Path.{◌≡◌, ◌∙◌, refl, subst, sym, ap}
 use mathlib.Core.Bool.{Bool, true, false, ◌&&◌}
 use mathlib.Core.List.{List, [], ◌∷◌}
-use Prim.Native.Nat.{ℕ, ◌-◌, ◌≤◌}
+use Prim.Native.Nat.{ℕ, ◌-◌, ◌≤◌, min}
 use native.Mathlib.Omega.{arith}
+use native.Mathlib.Decide.{dec_le}
 use lib.ListN.{length, take, drop, length-drop, drop_of_length-le}
 use lib.Seq.{take_all, take-nil}
 use lib.Dec.{eqb}
@@ -13,23 +14,37 @@ use borrow.Author.Tests.{eq-eqb, eqb-true}
 use Rattle.text.specs.Part.{part_of, same_bytes}
 use Rattle.text.proofs.Tests.{both}
 
--- a part that ends where it starts, or starts past the end, is empty
+-- a part that ends where it starts is empty
 pub part_none : (s : List ℕ) (start end : ℕ) → end ≤ start → [] ≡ part_of s start end
 unfolding part_of
 part_none s start end h =
     let e : end - start ≡ 0 = omega arith in
     rw e
 
+-- and so is one that starts past the end
 pub part-past : (s : List ℕ) (start end : ℕ) → length s ≤ start → [] ≡ part_of s start end
 unfolding part_of
 part-past s start end h = rw (drop_of_length-le s h, take-nil)
 
--- a part that ends past the end is the whole rest
-pub part-rest : (s : List ℕ) (start end : ℕ) → length s ≤ end → take (length s - start) (drop start s) ≡ part_of s start end
+-- a part ends where the bytes do, at the latest
+part-cut-by : (s : List ℕ) (start end : ℕ) → Dec (end ≤ length s) → take (min end (length s) - start) (drop start s) ≡ part_of s start end
 unfolding part_of
-part-rest s start end h =
-    take_all (length s - start) (drop start s) (simp length-drop (omega arith))
-    ∙ sym (take_all (end - start) (drop start s) (simp length-drop (omega arith)))
+part-cut-by s start end (yes h) =
+    let e : min end (length s) ≡ end = omega arith in
+    rw e
+part-cut-by s start end (no h) =
+    let e : min end (length s) ≡ length s = omega arith in
+    rw e
+    (take_all (length s - start) (drop start s) (simp length-drop (omega arith))
+    ∙ sym (take_all (end - start) (drop start s) (simp length-drop (omega arith))))
+
+pub part-cut : (s : List ℕ) (start end : ℕ) → take (min end (length s) - start) (drop start s) ≡ part_of s start end
+part-cut s start end = part-cut-by s start end (dec_le end (length s))
+
+pub part-cut-none : (s : List ℕ) (start end : ℕ) → min end (length s) ≤ start → [] ≡ part_of s start end
+part-cut-none s start end h =
+    let e : min end (length s) - start ≡ 0 = omega arith in
+    rw e at (part-cut s start end)
 
 -- the comparison says yes of equal rows
 pub same_refl : (a : List ℕ) → same_bytes a a ≡ true
@@ -59,7 +74,7 @@ same_by a b true f g = sym (subst (λ (x : List ℕ). same_bytes a x ≡ true) (
 same_by a b false f g = differ-by a b (same_bytes a b) refl g
 
 -- the test that std makes of two slices
-and-pick : (t u : Bool) → (t && u) ≡ pick t u false
+pub and-pick : (t u : Bool) → (t && u) ≡ pick t u false
 and-pick true u = refl
 and-pick false u = refl
 

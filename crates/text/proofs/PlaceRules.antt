@@ -19,7 +19,8 @@ use Rattle.text.specs.Place.Judged.{well_formed, ill_formed}
 use Rattle.text.specs.declared.utf8.Decoded.{Decoded}
 use Rattle.text.specs.declared.utf8.Decoded.TheVariants.{Char}
 use Rattle.text.specs.declared.place.Place.{Place}
-use Rattle.text.specs.declared.place.Checked.{Checked}
+use Rattle.text.specs.declared.place.IllFormed.{IllFormed}
+use Rattle.std.specs.Prelude.{Result}
 use Rattle.text.proofs.Tests.{picked}
 use Rattle.text.proofs.Utf8Rules.{stands, same-character}
 use Rattle.text.proofs.CharLaws.{some_bytes, char-inside, chars-char, chars-bad, chars-end}
@@ -203,7 +204,7 @@ never_both {s} h k b p g =
     omega (arith, ap length e, size_of b)
 
 -- and the rules allow one answer
-pub judged-one : {s : List ℕ} {x y : Checked} → Judged s x → Judged s y → x ≡ y
+pub judged-one : {s : List ℕ} {x y : Result Unit IllFormed} → Judged s x → Judged s y → x ≡ y
 judged-one (well_formed h) (well_formed k) = refl
 judged-one (well_formed h) (ill_formed k b p g) = absurd (never_both h k b p g)
 judged-one (ill_formed k b p g) (well_formed h) = absurd (never_both h k b p g)

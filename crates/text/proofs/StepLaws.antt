@@ -9,7 +9,7 @@ use Rattle.text.specs.Place.{after, step_of, walked}
 use Rattle.text.specs.declared.utf8.Decoded.{Decoded}
 use Rattle.text.specs.declared.utf8.Decoded.TheVariants.{Char, Bad, End}
 use Rattle.text.specs.declared.place.Place.{Place}
-use Rattle.text.specs.declared.place.Step.TheVariants.{Next, Stop}
+use Rattle.std.specs.Prelude.{Option, Some, None}
 use Rattle.text.proofs.CharLaws.{chars-char, chars-bad, chars-end, char-inside}
 
 -- a character stands at p, and next is the place behind it
@@ -30,14 +30,16 @@ decoded-step s p c n d =
     let g = char-inside s p.at c n d in
     record { more = g.0; inside = g.1; is = refl; rest = chars-char s p.at c n d }
 
-same_step : {p q : Place} {c d : ℕ} → Next c p ≡ Next d q → (c ≡ d) × (p ≡ q)
-same_step e = ((cc), (cc))
+same_step : {p q : Place} {c d : ℕ} → ◌≡◌ {A = Option (ℕ × Place)} (Some (c, p)) (Some (d, q)) → (c ≡ d) × (p ≡ q)
+same_step {p} {q} {c} {d} e =
+    let m : ◌≡◌ {A = ℕ × Place} (c, p) (d, q) = cc in
+    (ap (λ (x : ℕ × Place). x.0) m, ap (λ (x : ℕ × Place). x.1) m)
 
-never_stop : {p : Place} {c : ℕ} → Stop ≡ Next c p → ⊥
+never_stop : {p : Place} {c : ℕ} → ◌≡◌ {A = Option (ℕ × Place)} None (Some (c, p)) → ⊥
 never_stop e = let z : ◌≡◌ {A = ℕ} 0 1 = cc in omega arith
 
 step_by : (s : List ℕ) (p : Place) (code : ℕ) (next : Place) (x : Decoded) → decode_at s p.at ≡ x →
-    step_of p (chars s p.at) ≡ Next code next → Stepped s p code next
+    step_of p (chars s p.at) ≡ Some (code, next) → Stepped s p code next
 unfolding step_of
 step_by s p code next (Char c n) d e =
     let q = same_step (sym (ap (step_of p) (chars-char s p.at c n d)) ∙ e) in
@@ -46,16 +48,16 @@ step_by s p code next Bad d e = absurd (never_stop (sym (ap (step_of p) (chars-b
 step_by s p code next End d e = absurd (never_stop (sym (ap (step_of p) (chars-end s p.at d)) ∙ e))
 
 -- what a step that found a character says
-pub step-next : (s : List ℕ) (p : Place) (code : ℕ) (next : Place) → step_of p (chars s p.at) ≡ Next code next → Stepped s p code next
+pub step-next : (s : List ℕ) (p : Place) (code : ℕ) (next : Place) → step_of p (chars s p.at) ≡ Some (code, next) → Stepped s p code next
 step-next s p code next e = step_by s p code next (decode_at s p.at) refl e
 
-stop_by : (p : Place) (l : List Character) → step_of p l ≡ Stop → l ≡ []
+stop_by : (p : Place) (l : List Character) → step_of p l ≡ None → l ≡ []
 unfolding step_of
 stop_by p [] e = refl
 stop_by p (ch ∷ cs) e = absurd (never_stop (sym e))
 
 -- and one that found none
-pub step_stop : (s : List ℕ) (p : Place) → step_of p (chars s p.at) ≡ Stop → Stopped s p
+pub step_stop : (s : List ℕ) (p : Place) → step_of p (chars s p.at) ≡ None → Stopped s p
 step_stop s p e = record { rest = stop_by p (chars s p.at) e }
 
 walk-cons : (p : Place) {ch : Character} {l r : List Character} → l ≡ ch ∷ r → walked p l ≡ walked (after p ch) r
@@ -79,6 +81,6 @@ walk-row (ch ∷ cs) p = walk-row cs (after p ch)
 
 -- the character that was decoded, and the place behind it
 pub to-next : (s : List ℕ) (p : Place) {d : Decoded} {c n : ℕ} {q : Place} → d ≡ decode_at s p.at → d ≡ Char c n →
-    q ≡ after p (record { code = c; next = n }) → Next c q ≡ step_of p (chars s p.at)
+    q ≡ after p (record { code = c; next = n }) → Some (c, q) ≡ step_of p (chars s p.at)
 unfolding step_of
 to-next s p d e q = rw (chars-char s p.at _ _ (sym d ∙ e), q)

@@ -11,7 +11,8 @@ use Rattle.text.specs.Choice.{pick}
 use Rattle.text.specs.Utf8.{Character, codes, chars}
 use Rattle.text.specs.Place.{most_held, counted, line_feeds, since_line_feed, line_after, column_after, after, step_of, start, walked, judge, check_of, Counts, Within}
 use Rattle.text.specs.declared.place.Place.{Place}
-use Rattle.text.specs.declared.place.Checked.TheVariants.{WellFormed, IllFormed}
+use Rattle.text.specs.declared.place.IllFormed.{IllFormed}
+use Rattle.std.specs.Prelude.{Result, Ok, Err}
 use Rattle.text.proofs.Tests.{picked}
 use Rattle.text.proofs.StepLaws.{Stepped, step-next}
 use Rattle.text.proofs.PlaceRules.{line-walked, column-walked}
@@ -81,21 +82,21 @@ module _ (s : List ℕ) (cs rest : List Character) (begins : chars s 0 ≡ cs ++
       }
 
 -- what holds of the place where the check ended holds of the place of refusal 4
-judge-holds : (P : ℕ → ℕ → Type 0) (t : Bool) {l c line column : ℕ} → P l c → pick t WellFormed (IllFormed l c) ≡ IllFormed line column → P line column
+judge-holds : (P : ℕ → ℕ → Type 0) (t : Bool) {x y : IllFormed} → P x.line x.column →
+    pick {A = Result Unit IllFormed} t (Ok tt) (Err x) ≡ Err y → P y.line y.column
 judge-holds P true w e = absurd (let z : ◌≡◌ {A = ℕ} 0 1 = cc in omega arith)
-judge-holds P false {l} {c} {line} {column} w e =
-    let p : l ≡ line = cc in
-    let q : c ≡ column = cc in
-    rw (p, q) at w
+judge-holds P false {x} {y} w e =
+    let p : x ≡ y = cc in
+    rw p at w
 
 -- the place of refusal 4 lies within the text, and is behind all characters before the first place where none begins
-module _ (s : List ℕ) {line column : ℕ} (is : check_of s ≡ IllFormed line column) where
-  pub check-within : Within s line column
+module _ (s : List ℕ) {at : IllFormed} (is : check_of s ≡ Err at) where
+  pub check-within : Within s at.line at.column
   unfolding check_of judge
   check-within =
       judge-holds (Within s) (eqb (walked start (chars s 0)).at (length s)) (walked-within s (chars s 0) [] (sym (append-nil (chars s 0)))) is
 
-  pub check-counts : length s + 1 < most_held → Counts (codes (chars s 0)) line column
+  pub check-counts : length s + 1 < most_held → Counts (codes (chars s 0)) at.line at.column
   unfolding check_of judge
   check-counts short =
       judge-holds (Counts (codes (chars s 0))) (eqb (walked start (chars s 0)).at (length s))

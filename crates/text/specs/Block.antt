@@ -1,7 +1,11 @@
 -- Bytes that all pass a test, and eight of them at a time.
-use Rattle.std.specs.Prelude.{ℕ, ◌+◌, ◌-◌, ◌≤◌, ◌≡◌, List, [], ◌∷◌, Bool, true, false, length, leb}
+use Rattle.std.specs.Prelude.{ℕ, ◌+◌, ◌-◌, ◌<◌, ◌≤◌, ◌≡◌, List, [], ◌∷◌, Bool, true, false, length, leb}
 use Rattle.text.specs.Choice.{pick}
 use Rattle.text.specs.Part.{part_of}
+
+-- a test on bytes that answers as p does
+abbrev pub Tells : (ℕ → Bool → Type 0) → (ℕ → Bool) → Type 0
+Tells answers p = (b : ℕ) (r : Bool) → b < 256 → answers b r → r ≡ p b
 
 -- whether every byte passes a test
 unfoldable pub every : (ℕ → Bool) → List ℕ → Bool

@@ -1,13 +1,10 @@
 -- Places in a text: line and column count characters from 1, and only LF starts a line (document 01, "Tokens and places").
-use Rattle.std.specs.Prelude.{ℕ, ◌+◌, ◌<◌, ◌≤◌, ◌≡◌, List, [], ◌∷◌, length, ltb, eqb}
+use Rattle.std.specs.Prelude.{ℕ, ◌+◌, ◌<◌, ◌≤◌, ◌≡◌, List, [], ◌∷◌, length, ltb, eqb, Option, Some, None, Result, Ok, Err}
 use Rattle.text.specs.Choice.{pick}
 use Rattle.text.specs.Rfc3629.{Utf8Octets, Starts, StartsNone}
 use Rattle.text.specs.Utf8.{Character, chars}
 use Rattle.text.specs.declared.place.Place.{Place}
-use Rattle.text.specs.declared.place.Step.{Step}
-use Rattle.text.specs.declared.place.Step.TheVariants.{Next, Stop}
-use Rattle.text.specs.declared.place.Checked.{Checked}
-use Rattle.text.specs.declared.place.Checked.TheVariants.{WellFormed, IllFormed}
+use Rattle.text.specs.declared.place.IllFormed.{IllFormed}
 
 -- the greatest number that is held in 32 bits
 abbrev pub most_held : ℕ
@@ -58,9 +55,9 @@ abbrev pub start : Place
 start = record { at = 0; line = 1; column = 1 }
 
 -- the character at a place and the place behind it, by the characters from there on
-unfoldable pub step_of : Place → List Character → Step
-step_of p [] = Stop
-step_of p (ch ∷ cs) = Next ch.code (after p ch)
+unfoldable pub step_of : Place → List Character → Option (ℕ × Place)
+step_of p [] = None
+step_of p (ch ∷ cs) = Some (ch.code, after p ch)
 
 -- the place behind these characters
 unfoldable pub walked : Place → List Character → Place
@@ -68,14 +65,14 @@ walked p [] = p
 walked p (ch ∷ cs) = walked (after p ch) cs
 
 -- question 4 of document 01: is all of s characters? Else the first place where none begins.
-unfoldable pub judge : ℕ → Place → Checked
-judge size p = pick (eqb p.at size) WellFormed (IllFormed p.line p.column)
+unfoldable pub judge : ℕ → Place → Result Unit IllFormed
+judge size p = pick (eqb p.at size) (Ok tt) (Err (record { line = p.line; column = p.column }))
 
-unfoldable pub check_of : List ℕ → Checked
+unfoldable pub check_of : List ℕ → Result Unit IllFormed
 check_of s = judge (length s) (walked start (chars s 0))
 
 -- the same by the rules of RFC 3629: a row of characters, or the place behind the row where no character begins
-pub data Judged (s : List ℕ) : Checked → Type 0 where
-  well_formed : {cs : List ℕ} → Utf8Octets s cs → Judged s WellFormed
+pub data Judged (s : List ℕ) : Result Unit IllFormed → Type 0 where
+  well_formed : {cs : List ℕ} → Utf8Octets s cs → Judged s (Ok tt)
   ill_formed : {u cs : List ℕ} → Utf8Octets u cs → (begins : Starts s u) → 0 < length begins.rest → StartsNone begins.rest →
-      Judged s (IllFormed (line_after cs) (column_after cs))
+      Judged s (Err (record { line = line_after cs; column = column_after cs }))

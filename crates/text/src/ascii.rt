@@ -2,47 +2,30 @@
 ghost use Rattle.std.specs.Prelude.{◌≡◌};
 ghost use Rattle.text.specs.Ascii.{is_digit, is_alpha, is_word_start, is_word_part};
 
+#[tactic(auto, using(crate::proofs::Tests::steps), unfolding(crate::specs::Ascii::is_digit))]
 pub fn is_digit(code: u32) -> bool
     ensures { result ≡ is_digit code }
 {
-    if code < 0x30 {
-        return false;
-    }
-    code <= 0x39
+    matches!(code, 0x30..=0x39)
 }
 
+#[tactic(auto, using(crate::proofs::Tests::steps), unfolding(crate::specs::Ascii::is_alpha))]
 pub fn is_alpha(code: u32) -> bool
     ensures { result ≡ is_alpha code }
 {
-    if 0x61 <= code {
-        return code <= 0x7A;
-    }
-    if code < 0x41 {
-        return false;
-    }
-    code <= 0x5A
+    matches!(code, 0x61..=0x7A | 0x41..=0x5A)
 }
 
+#[tactic(auto, using(crate::proofs::Tests::steps), unfolding(crate::specs::Ascii::is_word_start))]
 pub fn is_word_start(code: u32) -> bool
     ensures { result ≡ is_word_start code }
 {
-    if is_alpha(code) {
-        return true;
-    }
-    code == 0x5F
+    is_alpha(code) || code == 0x5F
 }
 
+#[tactic(auto, using(crate::proofs::Tests::steps), unfolding(crate::specs::Ascii::is_word_part, crate::specs::Ascii::is_word_start, crate::specs::Ascii::is_alpha, crate::specs::Ascii::is_digit))]
 pub fn is_word_part(code: u32) -> bool
     ensures { result ≡ is_word_part code }
 {
-    if 0x61 <= code {
-        return code <= 0x7A;
-    }
-    if code < 0x41 {
-        return is_digit(code);
-    }
-    if code <= 0x5A {
-        return true;
-    }
-    code == 0x5F
+    matches!(code, 0x61..=0x7A | 0x30..=0x39 | 0x41..=0x5A | 0x5F)
 }

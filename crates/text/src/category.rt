@@ -7,29 +7,17 @@ pub const LAST_CODE_POINT: u32 = 0x10FFFF;
 pub const PLANE_SIZE: u32 = 0x10000;
 
 // Is this one of the 65 control characters?
+#[tactic(auto, using(crate::proofs::Tests::steps), unfolding(crate::specs::Category::is_control, crate::specs::Category::controls, crate::specs::White::among))]
 pub fn is_control(code: u32) -> bool
     ensures { result ≡ is_control code }
 {
-    if code <= 0x1F {
-        return true;
-    }
-    if code < 0x7F {
-        return false;
-    }
-    code <= 0x9F
+    matches!(code, 0x0..=0x1F | 0x7F..=0x9F)
 }
 
 // Is this one of the 66 noncharacters?
+#[tactic(auto, using(crate::proofs::Tests::steps), unfolding(crate::specs::Category::is_noncharacter))]
 pub fn is_noncharacter(code: u32) -> bool
     ensures { result ≡ is_noncharacter code }
 {
-    if 0xFDD0 <= code {
-        if code <= 0xFDEF {
-            return true;
-        }
-    }
-    if LAST_CODE_POINT < code {
-        return false;
-    }
-    0xFFFE <= code % PLANE_SIZE
+    matches!(code, 0xFDD0..=0xFDEF) || code <= LAST_CODE_POINT && 0xFFFE <= code % PLANE_SIZE
 }

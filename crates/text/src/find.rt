@@ -2,23 +2,19 @@
 ghost use Rattle.std.specs.Prelude.{◌≡◌, ◌≤◌, length};
 ghost use Rattle.text.specs.Find.{first_at};
 
-// The same, byte by byte.
+// The offset of the first b at or behind an offset, looked for byte by byte; the length where there is none.
 fn find_each(s: &[u8], from: usize, b: u8) -> usize
     requires { from ≤ length s.now }
     ensures { result ≡ first_at b s.now from }
 {
-    let mut i = from;
-    while i < s.len() {
-        if s[i] == b {
-            return i;
-        }
-        i += 1;
+    match s[from..].iter().position(|x| *x == b) {
+        Some(i) => from + i,
+        None => s.len(),
     }
-    i
 }
 
-// The offset of the first b at or behind an offset; the length where there is none. Lines and fields are found by this function, so that
-// it takes eight bytes a turn.
+// The offset of the first b at or behind an offset; the length where there is none. For speed it takes eight bytes a turn: lines and
+// fields are found by this function.
 pub fn find(s: &[u8], from: usize, b: u8) -> usize
     ensures { result ≡ first_at b s.now from }
 {

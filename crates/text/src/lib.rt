@@ -3,6 +3,7 @@
 #![tactic(auto)]
 
 pub mod ascii;
+pub mod block;
 pub mod category;
 pub mod find;
 pub mod part;

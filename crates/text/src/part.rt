@@ -6,25 +6,16 @@ ghost use Rattle.text.specs.Part.{part_of, same_bytes, SaysSame};
 pub fn part(s: &[u8], start: usize, end: usize) -> &[u8]
     ensures { result.now ≡ part_of s.now start end }
 {
-    let len = s.len();
-    if end <= start {
-        return &s[..0];
-    }
-    if len <= start {
-        return &s[..0];
-    }
-    if len <= end {
-        return &s[start..];
-    }
-    &s[start..end]
+    let end = end.min(s.len());
+    if start < end { &s[start..end] } else { &[] }
 }
 
-// The same bytes, asked of one after the other? For a fixed word: this is so little code that the compiler puts it in the place of a call,
-// and makes a few tests of it.
+// The same bytes, asked of one after the other? For a fixed word: the compiler puts this in the place of a call and makes a few tests of
+// it, where `a == b` stays a call.
 pub fn each_same(a: &[u8], b: &[u8]) -> bool
     ensures { result ≡ same_bytes a.now b.now }
 {
-    a == b
+    a.len() == b.len() && a.iter().zip(b).all(|(x, y)| x == y)
 }
 
 // Are four bytes of two slices the same, from an offset on? No test waits for another, so that the machine makes all at once.
@@ -43,11 +34,8 @@ fn blocks_same(a: &[u8], b: &[u8], last: usize) -> bool
     requires { (length a.now ≡ last + 4) × (length b.now ≡ last + 4) }
     ensures { result ≡ same_bytes a.now b.now }
 {
-    let mut at: usize = 0;
-    while at < last {
-        if four_same(a, b, at) {
-            at = at + 4;
-        } else {
+    for at in (0..last).step_by(4) {
+        if !four_same(a, b, at) {
             return false;
         }
     }
@@ -55,7 +43,7 @@ fn blocks_same(a: &[u8], b: &[u8], last: usize) -> bool
 }
 
 // Yes exactly for two slices of the same length and bytes, whatever they are: all names and topics are compared by this function.
-// Fewer than eight bytes are gone through one by one.
+// Fewer than eight bytes are gone through one by one. `==` of two slices stays a call, which costs more.
 pub fn same(a: &[u8], b: &[u8]) -> bool
     ensures value { result ≡ same_bytes a.now b.now }
     ensures exactly { SaysSame a.now b.now result }

@@ -13,32 +13,27 @@ pub struct Place {
     pub column: u32,
 }
 
-// The character at a place and the place behind it. Stop: no character begins there.
+// Refusal 4: the first place where no character begins.
 #[derive(Clone, Copy)]
-pub enum Step {
-    Next { code: u32, place: Place },
-    Stop,
-}
-
-// Question 4's answer.
-#[derive(Clone, Copy)]
-pub enum Checked {
-    WellFormed,
-    IllFormed { line: u32, column: u32 },
+pub struct IllFormed {
+    pub line: u32,
+    pub column: u32,
 }
 
 // One more, up to the greatest number.
+#[tactic(auto, using(crate::proofs::Tests::steps), unfolding(crate::specs::Place::counted))]
 pub fn count_up(n: u32) -> u32
     ensures { result ≡ counted (n + 1) }
 {
-    if n < 4294967294 { n + 1 } else { 4294967295 }
+    n.saturating_add(1)
 }
 
 // A number as far as a word of 32 bits holds it.
+#[tactic(auto, using(crate::proofs::Tests::steps), unfolding(crate::specs::Place::counted))]
 pub fn held(n: usize) -> u32
     ensures { result ≡ counted n }
 {
-    if n < 4294967295 { n as u32 } else { 4294967295 }
+    u32::try_from(n).unwrap_or(u32::MAX)
 }
 
 impl Place {
@@ -71,37 +66,29 @@ impl Place {
         }
     }
 
-    // The character at this place of s and the place behind it. A byte below 0x80 is one by itself, and for speed read in place.
-    pub fn bump(self, s: &[u8]) -> Step
+    // The character at this place of s and the place behind it; none where no character begins. A byte below 0x80 is one by itself, and for
+    // speed read in place.
+    pub fn bump(self, s: &[u8]) -> Option<(u32, Place)>
         ensures { result ≡ step_of self (chars s.now self.at) }
     {
         let at = self.at;
         if at < s.len() {
             let b = s[at];
             if b < 0x80 {
-                let code = b as u32;
-                return Step::Next {
-                    code,
-                    place: self.after(code, at + 1),
-                };
+                let code = u32::from(b);
+                return Some((code, self.after(code, at + 1)));
             }
         }
         self.decoded(s)
     }
 
     // The same, with no short way for a byte below 0x80: for a caller that has seen that none stands there.
-    pub fn decoded(self, s: &[u8]) -> Step
+    pub fn decoded(self, s: &[u8]) -> Option<(u32, Place)>
         ensures { result ≡ step_of self (chars s.now self.at) }
     {
-        let at = self.at;
-        let d = utf8::decode(s, at);
-        match d {
-            Decoded::Char { code, next } => Step::Next {
-                code,
-                place: self.after(code, next),
-            },
-            Decoded::Bad => Step::Stop,
-            Decoded::End => Step::Stop,
+        match utf8::decode(s, self.at) {
+            Decoded::Char { code, next } => Some((code, self.after(code, next))),
+            Decoded::Bad | Decoded::End => None,
         }
     }
 
@@ -110,31 +97,24 @@ impl Place {
         ensures { result ≡ walked self (chars s.now self.at) }
     {
         let mut p = self;
-        loop {
-            let step = p.bump(s);
-            match step {
-                Step::Next { code: _, place } => {
-                    p = place;
-                }
-                Step::Stop => {
-                    return p;
-                }
-            }
+        while let Some((_, next)) = p.bump(s) {
+            p = next;
         }
+        p
     }
 }
 
 // Is s well-formed UTF-8? Else the first place where no character begins. For speed places are counted only where one is answered.
-pub fn check_utf8(s: &[u8]) -> Checked
+pub fn check_utf8(s: &[u8]) -> Result<(), IllFormed>
     ensures value { result ≡ check_of s.now }
     ensures rules { Judged s.now result }
 {
     if utf8::row_end(s) == s.len() {
-        return Checked::WellFormed;
+        return Ok(());
     }
     let p = Place::start().walk(s);
-    Checked::IllFormed {
+    Err(IllFormed {
         line: p.line,
         column: p.column,
-    }
+    })
 }

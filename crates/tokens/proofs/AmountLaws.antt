@@ -1,5 +1,6 @@
 -- The amount of a duration is the one that specs/Amount.antt allows, and no other: 18 exactly if it is no whole number of milliseconds, 17
 -- exactly if it is too large.
+use Rattle.std.specs.Prelude.{Result, Ok, Err}
 use Prim.Native.Nat.{ℕ, ◌+◌, ◌*◌, ◌/◌, ◌%◌, ◌^◌, ◌<◌, ◌≤◌}
 use mathlib.Core.Path.{◌≡◌, ◌∙◌, refl, ap, sym}
 use native.Mathlib.Omega.{arith}
@@ -9,8 +10,6 @@ use borrow.Author.Tests.{ltb-true, ltb-false, eqb-true, eqb-false, ne_eqb, lt-lt
 use Rattle.text.proofs.Tests.{picked}
 use Rattle.tokens.specs.Amount.{Amounts, most_ms, JudgedAmount, fine, long, exact}
 use Rattle.tokens.specs.Duration.{bounded_ms, whole_ms, amount}
-use Rattle.tokens.specs.declared.duration.Amount.{Amount}
-use Rattle.tokens.specs.declared.duration.Amount.TheVariants.{Ms, Refused}
 use Rattle.tokens.proofs.PowerLaws.{ten-pos}
 
 -- a product has no remainder, and its quotient is the other factor
@@ -30,7 +29,7 @@ module _ (w f d u : ℕ) where
   abbrev total : ℕ
   total = (w * 10 ^ d + f) * u
 
-  abbrev Judged : Amount → Type 0
+  abbrev Judged : Result ℕ ℕ → Type 0
   Judged = JudgedAmount w f d u
 
   -- without a rest the quotient is that number, and with one there is none
@@ -58,7 +57,7 @@ module _ (w f d u : ℕ) where
       (λ h. fine (none-amounts (eqb-false (n % t) 0 h)))
 
 -- and the rules allow one answer
-pub amount-one : {w f d u : ℕ} {x y : Amount} → JudgedAmount w f d u x → JudgedAmount w f d u y → x ≡ y
+pub amount-one : {w f d u : ℕ} {x y : Result ℕ ℕ} → JudgedAmount w f d u x → JudgedAmount w f d u y → x ≡ y
 amount-one (fine n) (fine m) = refl
 amount-one (fine n) (long {ms} a l) = absurd (n ms a)
 amount-one (fine n) (exact {ms} a l) = absurd (n ms a)
@@ -67,24 +66,24 @@ amount-one (long a l) (long b m) = refl
 amount-one (long a l) (exact b m) = absurd (let e = amounts-one a b in omega arith)
 amount-one (exact {ms} a l) (fine m) = absurd (m ms a)
 amount-one (exact a l) (long b m) = absurd (let e = amounts-one a b in omega arith)
-amount-one (exact a l) (exact b m) = ap Ms (amounts-one a b)
+amount-one (exact a l) (exact b m) = ap Ok (amounts-one a b)
 
 -- so the definition is the only answer that they allow
-pub amount-only : (w f d u : ℕ) {x : Amount} → JudgedAmount w f d u x → amount w f d u ≡ x
+pub amount-only : (w f d u : ℕ) {x : Result ℕ ℕ} → JudgedAmount w f d u x → amount w f d u ≡ x
 amount-only w f d u h = amount-one (amount-judged w f d u) h
 
 -- The code's way to it: whole milliseconds apart from the parts of one.
 
-pub parts_whole : (ms n scale : ℕ) {x : Amount} → 0 < scale → n % scale ≡ 0 → x ≡ bounded_ms (ms + n / scale) → x ≡ whole_ms (ms * scale + n) scale
+pub parts_whole : (ms n scale : ℕ) {x : Result ℕ ℕ} → 0 < scale → n % scale ≡ 0 → x ≡ bounded_ms (ms + n / scale) → x ≡ whole_ms (ms * scale + n) scale
 unfolding whole_ms
 parts_whole ms n scale p e h = rw (mul-add-mod_self_right ms scale n, e, mul-add-div_right p ms n) h
 
-pub parts-rest : (ms n scale : ℕ) → 0 < scale → (n % scale ≡ 0 → ⊥) → Refused 18 ≡ whole_ms (ms * scale + n) scale
+pub parts-rest : (ms n scale : ℕ) → 0 < scale → (n % scale ≡ 0 → ⊥) → Err 18 ≡ whole_ms (ms * scale + n) scale
 unfolding whole_ms
 parts-rest ms n scale p e = rw (mul-add-mod_self_right ms scale n, ne_eqb (n % scale) 0 e)
 
 -- the amount by whole milliseconds and parts
-pub by_parts : (w f d u : ℕ) {x : Amount} → x ≡ whole_ms (w * u * 10 ^ d + f * u) (10 ^ d) → x ≡ amount w f d u
+pub by_parts : (w f d u : ℕ) {x : Result ℕ ℕ} → x ≡ whole_ms (w * u * 10 ^ d + f * u) (10 ^ d) → x ≡ amount w f d u
 unfolding amount
 by_parts w f d u {x} h =
     let t = 10 ^ d in
@@ -92,26 +91,26 @@ by_parts w f d u {x} h =
     h ∙ ap (λ (n : ℕ). whole_ms n t) e
 
 -- more than 32 bits hold, and what they hold
-pub too_long : (ms : ℕ) → most_ms < ms → Refused 17 ≡ bounded_ms ms
+pub too_long : (ms : ℕ) → most_ms < ms → Err 17 ≡ bounded_ms ms
 unfolding bounded_ms
 too_long ms h = rw (lt-ltb most_ms ms h)
 
-pub not-long : (ms : ℕ) {n : ℕ} → n ≡ ms → ms ≤ most_ms → Ms n ≡ bounded_ms ms
+pub not-long : (ms : ℕ) {n : ℕ} → n ≡ ms → ms ≤ most_ms → Ok n ≡ bounded_ms ms
 unfolding bounded_ms
 not-long ms e h = rw (e, le-ltb most_ms ms h)
 
 -- whole milliseconds alone: no parts of one
-pub no-parts : (w f d u : ℕ) {x : Amount} → f * u ≡ 0 → x ≡ bounded_ms (w * u + 0) → x ≡ amount w f d u
+pub no-parts : (w f d u : ℕ) {x : Result ℕ ℕ} → f * u ≡ 0 → x ≡ bounded_ms (w * u + 0) → x ≡ amount w f d u
 no-parts w f d u z h =
     let t = 10 ^ d in
     by_parts w f d u (rw z (parts_whole (w * u) 0 t (ten-pos d) (zero-mod t) (rw (zero-div t) h)))
 
 -- a fraction of so many digits that a millisecond has more parts than it
-pub fine-parts : (w f d u : ℕ) → (f * u ≡ 0 → ⊥) → f * u < 10 ^ d → Refused 18 ≡ amount w f d u
+pub fine-parts : (w f d u : ℕ) → (f * u ≡ 0 → ⊥) → f * u < 10 ^ d → Err 18 ≡ amount w f d u
 fine-parts w f d u z few =
     let t = 10 ^ d in
     by_parts w f d u (parts-rest (w * u) (f * u) t (ten-pos d) (λ e. z (sym (mod-eq_of_lt few) ∙ e)))
 
 -- both promises of an amount
-pub judged-by : (w f d u : ℕ) {x : Amount} → x ≡ amount w f d u → (x ≡ amount w f d u) × JudgedAmount w f d u x
+pub judged-by : (w f d u : ℕ) {x : Result ℕ ℕ} → x ≡ amount w f d u → (x ≡ amount w f d u) × JudgedAmount w f d u x
 judged-by w f d u h = (h, rw h (amount-judged w f d u))

@@ -1,5 +1,6 @@
 -- Lexings that come to the end of their text: limits on the number of tokens, the records' size, the places in them, and the words that lexing
 -- leaves and answers.
+use Rattle.std.specs.Prelude.{Option, Some, None, Result, Ok, Err}
 use Prim.Native.Nat.{ℕ, zero, suc, ◌+◌, ◌*◌, ◌/◌, ◌%◌, ◌<◌, ◌≤◌}
 use native.Mathlib.Omega.{arith}
 use native.Mathlib.Decide.{dec_lt}
@@ -12,22 +13,19 @@ use lib.Dec.{ltb}
 use borrow.Author.Tests.{lt-ltb, le-ltb}
 use Rattle.text.specs.Utf8.{Character}
 use Rattle.text.specs.declared.place.Place.{Place}
-use Rattle.text.specs.declared.place.Step.{Step}
-use Rattle.text.specs.declared.place.Step.TheVariants.{Next, Stop}
 use Rattle.text.proofs.Tests.{picked}
 use Rattle.tokens.specs.Record.{record_size, capacity, place_unit, words_of, written, word_at, kind_at, line_at, column_at}
 use Rattle.tokens.specs.Cursor.{tokens}
 use Rattle.tokens.specs.Lexing.{record_of, Lexing, ended, refused, token}
-use Rattle.tokens.specs.Lex.{lex_text, answer_from, written_from, lexeme, lex_at, lex_no_more, behind as past-trivia, lex_from}
+use Rattle.tokens.specs.Lex.{lexed, refusal, lex_text, answer_from, written_from, lexeme, lex_at, lex_no_more, behind as past-trivia, lex_from}
 use Rattle.tokens.specs.Layout.{Laid, Lexical, no_token_rule, unterminated, too_large, no_time, places, no_unit, long, fine, too_many}
 use Rattle.tokens.specs.declared.record.Record.{Record}
 use Rattle.tokens.specs.declared.lexer.Lexed.{Lexed}
-use Rattle.tokens.specs.declared.lexer.Lexed.TheVariants.{Tokens, Refused}
+use Rattle.tokens.specs.declared.lexer.Refusal.{Refusal}
 use Rattle.tokens.specs.Ended.{Ended, at_end_rule, behind, record_words, token_line, token_column}
 use Rattle.tokens.specs.Placed.{Each, AllInWord}
 use Rattle.tokens.specs.Token.{look, token_at}
 use Rattle.tokens.specs.declared.lexer.Lexeme.{Lexeme}
-use Rattle.tokens.specs.declared.lexer.Lexeme.TheVariants.{Token}
 use Rattle.tokens.proofs.RecordLaws.{place_kept}
 use Rattle.tokens.proofs.LayoutLaws.{laid}
 use Rattle.tokens.proofs.SpelledLaws.{kind-some}
@@ -45,29 +43,29 @@ unrefused at_end_rule = tt
 unrefused (behind e) = tt
 
 -- Lexing that comes to an end with at most so many tokens does so under any such limit: at a token, at a step, at any place.
-token-left : (q : Place) (x : Lexeme) (rest : Place → Lexing) {count : ℕ} → Ended (lexeme q x rest) count → 1 ≤ count
-token-left q (Token kind number start end next) rest (behind e) = omega arith
-token-left q (Lexeme.Refused number) rest e = absurd (unrefused e)
+token-left : (q : Place) (x : Result Lexeme ℕ) (rest : Place → Lexing) {count : ℕ} → Ended (lexeme q x rest) count → 1 ≤ count
+token-left q (Ok t) rest (behind e) = omega arith
+token-left q (Err number) rest e = absurd (unrefused e)
 
-same-token : (q : Place) (x : Lexeme) (rest other : Place → Lexing) (m : ℕ) {count : ℕ} → Ended (lexeme q x rest) count → count ≤ suc m →
+same-token : (q : Place) (x : Result Lexeme ℕ) (rest other : Place → Lexing) (m : ℕ) {count : ℕ} → Ended (lexeme q x rest) count → count ≤ suc m →
     ((p : Place) (count : ℕ) → Ended (rest p) count → count ≤ m → other p ≡ rest p) → lexeme q x other ≡ lexeme q x rest
-same-token q (Token kind number start end next) rest other m (behind e) l h = ap (token (record_of kind number start end q)) (h next _ e (omega arith))
-same-token q (Lexeme.Refused number) rest other m e l h = refl
+same-token q (Ok t) rest other m (behind e) l h = ap (token (record_of t.kind t.number t.start t.end q)) (h t.next _ e (omega arith))
+same-token q (Err number) rest other m e l h = refl
 
-no_token-left : (s : List ℕ) (q : Place) (x : Step) (rest : Place → Lexing) {count : ℕ} → Ended (lex_at s q x rest) count → count ≤ 0 →
+no_token-left : (s : List ℕ) (q : Place) (x : Option (ℕ × Place)) (rest : Place → Lexing) {count : ℕ} → Ended (lex_at s q x rest) count → count ≤ 0 →
     lex_no_more q x ≡ lex_at s q x rest
-no_token-left s q Stop rest e l = refl
-no_token-left s q (Next c next) rest e l = absurd (let some = token-left q (token_at s q c next) rest e in omega arith)
+no_token-left s q None rest e l = refl
+no_token-left s q (Some (c, next)) rest e l = absurd (let some = token-left q (token_at s q c next) rest e in omega arith)
 
-same_step : (s : List ℕ) (q : Place) (x : Step) (rest other : Place → Lexing) (m : ℕ) {count : ℕ} → Ended (lex_at s q x rest) count →
+same_step : (s : List ℕ) (q : Place) (x : Option (ℕ × Place)) (rest other : Place → Lexing) (m : ℕ) {count : ℕ} → Ended (lex_at s q x rest) count →
     count ≤ suc m → ((p : Place) (count : ℕ) → Ended (rest p) count → count ≤ m → other p ≡ rest p) → lex_at s q x other ≡ lex_at s q x rest
-same_step s q Stop rest other m e l h = refl
-same_step s q (Next c next) rest other m e l h = same-token q (token_at s q c next) rest other m e l h
+same_step s q None rest other m e l h = refl
+same_step s q (Some (c, next)) rest other m e l h = same-token q (token_at s q c next) rest other m e l h
 
-none-ended : (s : List ℕ) (q : Place) (x : Step) (rest : Place → Lexing) {count : ℕ} → Ended (lex_no_more q x) count →
+none-ended : (s : List ℕ) (q : Place) (x : Option (ℕ × Place)) (rest : Place → Lexing) {count : ℕ} → Ended (lex_no_more q x) count →
     lex_at s q x rest ≡ lex_no_more q x
-none-ended s q Stop rest e = refl
-none-ended s q (Next c next) rest e = absurd (unrefused e)
+none-ended s q None rest e = refl
+none-ended s q (Some (c, next)) rest e = absurd (unrefused e)
 
 pub same-lexing : (n m : ℕ) (s : List ℕ) (p : Place) {count : ℕ} → Ended (lex_from n s p) count → count ≤ m → lex_from m s p ≡ lex_from n s p
 unfolding lex_from
@@ -78,19 +76,19 @@ same-lexing (suc n) (suc m) s p e l =
     same_step s (past-trivia s p) (look s (past-trivia s p)) (lex_from n s) (lex_from m s) m e l (λ q c f k. same-lexing n m s q f k)
 
 -- under a limit there are never more tokens
-few-tokens : (m : ℕ) (q : Place) (x : Lexeme) (rest : Place → Lexing) {count : ℕ} → Ended (lexeme q x rest) count →
+few-tokens : (m : ℕ) (q : Place) (x : Result Lexeme ℕ) (rest : Place → Lexing) {count : ℕ} → Ended (lexeme q x rest) count →
     ((p : Place) (count : ℕ) → Ended (rest p) count → count ≤ m) → count ≤ suc m
-few-tokens m q (Token kind number start end next) rest (behind e) h = let few = h next _ e in omega arith
-few-tokens m q (Lexeme.Refused number) rest e h = absurd (unrefused e)
+few-tokens m q (Ok t) rest (behind e) h = let few = h t.next _ e in omega arith
+few-tokens m q (Err number) rest e h = absurd (unrefused e)
 
-few-steps : (m : ℕ) (s : List ℕ) (q : Place) (x : Step) (rest : Place → Lexing) {count : ℕ} → Ended (lex_at s q x rest) count →
+few-steps : (m : ℕ) (s : List ℕ) (q : Place) (x : Option (ℕ × Place)) (rest : Place → Lexing) {count : ℕ} → Ended (lex_at s q x rest) count →
     ((p : Place) (count : ℕ) → Ended (rest p) count → count ≤ m) → count ≤ suc m
-few-steps m s q Stop rest at_end_rule h = omega arith
-few-steps m s q (Next c next) rest e h = few-tokens m q (token_at s q c next) rest e h
+few-steps m s q None rest at_end_rule h = omega arith
+few-steps m s q (Some (c, next)) rest e h = few-tokens m q (token_at s q c next) rest e h
 
-none_more : (q : Place) (x : Step) {count : ℕ} → Ended (lex_no_more q x) count → count ≤ 0
-none_more q Stop at_end_rule = omega arith
-none_more q (Next c next) e = absurd (unrefused e)
+none_more : (q : Place) (x : Option (ℕ × Place)) {count : ℕ} → Ended (lex_no_more q x) count → count ≤ 0
+none_more q None at_end_rule = omega arith
+none_more q (Some (c, next)) e = absurd (unrefused e)
 
 pub most_tokens_lem : (n : ℕ) (s : List ℕ) (p : Place) {count : ℕ} → Ended (lex_from n s p) count → count ≤ n
 unfolding lex_from
@@ -184,24 +182,24 @@ column-past (behind e) zero h = absurd (omega arith)
 column-past (behind e) (suc i) h = column-past e i (omega arith)
 
 -- the three numbers of an answer, and which of the two it is
-abbrev which : Lexed → ℕ
-which (Tokens count line column) = 0
-which (Refused number line column) = 1
+abbrev which : Result Lexed Refusal → ℕ
+which (Ok t) = 0
+which (Err r) = 1
 
-abbrev first_in_lem : Lexed → ℕ
-first_in_lem (Tokens count line column) = count
-first_in_lem (Refused number line column) = number
+abbrev first_in_lem : Result Lexed Refusal → ℕ
+first_in_lem (Ok t) = t.count
+first_in_lem (Err r) = r.number
 
-abbrev line_of : Lexed → ℕ
-line_of (Tokens count line column) = line
-line_of (Refused number line column) = line
+abbrev line_of : Result Lexed Refusal → ℕ
+line_of (Ok t) = t.line
+line_of (Err r) = r.line
 
-abbrev column-of : Lexed → ℕ
-column-of (Tokens count line column) = column
-column-of (Refused number line column) = column
+abbrev column-of : Result Lexed Refusal → ℕ
+column-of (Ok t) = t.column
+column-of (Err r) = r.column
 
 -- what lexing answers: count and the end's place, for a lexing that ended
-pub answer-ended : (k : ℕ) (l : Lexing) {count line column : ℕ} → answer_from k l ≡ Tokens count line column →
+pub answer-ended : (k : ℕ) (l : Lexing) {count line column : ℕ} → answer_from k l ≡ lexed count line column →
     (n : ℕ) × Ended l n × (k + n ≡ count) × (line ≡ end_line l) × (column ≡ end-column l)
 unfolding answer_from
 answer-ended k (ended p) e = (0, at_end_rule, add-zero k ∙ ap first_in_lem e, sym (ap line_of e), sym (ap column-of e))
@@ -218,7 +216,7 @@ RefusedAt number line column (ended p) = ⊥
 RefusedAt number line column (refused n p) = (n ≡ number) × (p.line ≡ line) × (p.column ≡ column)
 RefusedAt number line column (token r l) = RefusedAt number line column l
 
-pub answer-refused : (k : ℕ) (l : Lexing) {number line column : ℕ} → answer_from k l ≡ Refused number line column → RefusedAt number line column l
+pub answer-refused : (k : ℕ) (l : Lexing) {number line column : ℕ} → answer_from k l ≡ refusal number line column → RefusedAt number line column l
 unfolding answer_from
 answer-refused k (ended p) e = absurd (let z : ◌≡◌ {A = ℕ} 0 1 = ap which e in omega arith)
 answer-refused k (refused number p) e = (ap first_in_lem e, ap line_of e, ap column-of e)

@@ -8,14 +8,13 @@ use native.Mathlib.Decide.{dec_lt}
 use lib.ListN.{length}
 use lib.Dec.{eqb}
 use borrow.Author.Tests.{lt-ltb, le-ltb, eqb-true}
+use Rattle.std.specs.Prelude.{Some, Ok}
 use Rattle.text.specs.Choice.{pick}
 use Rattle.text.specs.Part.{same_bytes}
 use Rattle.tokens.specs.Record.{capacity, word_at, kind_at, number_at}
 use Rattle.tokens.specs.Cursor.{Tok, tokens, is_word, is_kind, take_kind, take_word, to_taken, accepted, at, advanced}
 use Rattle.tokens.specs.Result.{ok, refuse}
 use Rattle.tokens.specs.declared.cursor.Cursor.{Cursor}
-use Rattle.tokens.specs.declared.cursor.Taken.TheVariants.{Got}
-use Rattle.tokens.specs.declared.cursor.Accepted.TheVariants.{Yes}
 use Rattle.tokens.proofs.Chain.{taken-ok, accepted-yes}
 use Rattle.text.proofs.Tests.{told-yes, eq-told-yes, eq-told-no}
 
@@ -93,15 +92,15 @@ word_same t word i d h e g =
 -- the token in hand, which the cursor c stands behind, is accepted or taken
 module _ (text words : List ℕ) (i : ℕ) {r : Bool} {c : Cursor} where
   pub accepted-kind : (kind : ℕ) → r ≡ is_kind (tokens text words) kind i → r ≡ true → c ≡ at (advanced words i) →
-      Yes c ≡ accepted (is_kind (tokens text words) kind i) i
+      Some c ≡ accepted (is_kind (tokens text words) kind i) i
   accepted-kind kind d h e = rw (e, over-kind text words kind i d h) (accepted-yes (is_kind (tokens text words) kind i) i d h)
 
   pub accepted-word : (word : List ℕ) → r ≡ is_word (tokens text words) word i → r ≡ true → c ≡ at (advanced words i) →
-      Yes c ≡ accepted (is_word (tokens text words) word i) i
+      Some c ≡ accepted (is_word (tokens text words) word i) i
   accepted-word word d h e = rw (e, over_word text words word i d h) (accepted-yes (is_word (tokens text words) word i) i d h)
 
   pub taken-kind : (kind : ℕ) {n : ℕ} → r ≡ is_kind (tokens text words) kind i → r ≡ true → n ≡ number_at words i → c ≡ at (advanced words i) →
-      Got n c ≡ to_taken (take_kind (tokens text words) kind i)
+      Ok (n, c) ≡ to_taken (take_kind (tokens text words) kind i)
   unfolding tokens take_kind
   taken-kind kind d h g e =
       taken-ok
@@ -115,7 +114,7 @@ module _ (text words : List ℕ) (i : ℕ) {r : Bool} {c : Cursor} where
       (rw (e, over-kind text words kind i d h, g)))
 
   pub taken_word : (word : List ℕ) → r ≡ is_word (tokens text words) word i → r ≡ true → c ≡ at (advanced words i) →
-      Got 0 c ≡ to_taken (take_word (tokens text words) word i)
+      Ok (0, c) ≡ to_taken (take_word (tokens text words) word i)
   unfolding take_word
   taken_word word d h e =
       taken-ok

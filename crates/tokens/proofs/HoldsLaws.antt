@@ -1,4 +1,5 @@
 -- What lexing leaves in the lent words, word by word (specs/Buffer.antt).
+use Rattle.std.specs.Prelude.{Option, Some, None, Result, Ok, Err}
 use mathlib.Core.Path.{◌≡◌, ◌∙◌, refl, ap, sym}
 use mathlib.Core.Bool.{Bool, true, false}
 use Prim.Native.Nat.{ℕ, zero, suc, ◌+◌, ◌-◌, ◌*◌, ◌/◌, ◌≤◌}
@@ -12,44 +13,40 @@ use borrow.Author.Tests.{lt-ltb, ltb-false}
 use Rattle.text.specs.Choice.{pick}
 use Rattle.text.specs.Utf8.{Character}
 use Rattle.text.specs.Place.{start, check_of}
-use Rattle.text.specs.declared.place.Checked.{Checked}
-use Rattle.text.specs.declared.place.Checked.TheVariants.{WellFormed, IllFormed}
+use Rattle.text.specs.declared.place.IllFormed.{IllFormed}
 use Rattle.text.specs.declared.place.Place.{Place}
-use Rattle.text.specs.declared.place.Step.{Step}
-use Rattle.text.specs.declared.place.Step.TheVariants.{Next, Stop}
 use Rattle.tokens.specs.Record.{record_size, capacity, words_of, written}
 use Rattle.tokens.specs.Token.{look, token_at}
 use Rattle.tokens.specs.Lexing.{Lexing, ended, refused, token, most_tokens, most_bytes, least_words}
-use Rattle.tokens.specs.Lex.{lexeme, lex_at, lex_no_more, behind, lex_from, lex_text, answer_from, written_from, answer_by, words_by, lex_answer, lex_words}
+use Rattle.tokens.specs.Lex.{refusal, lexeme, lex_at, lex_no_more, behind, lex_from, lex_text, answer_from, written_from, answer_by, words_by, lex_answer, lex_words}
 use Rattle.tokens.specs.Layout.{Laid, Lexical, no_token_rule, unterminated, too_large, no_time, places, no_unit, long, fine, too_many}
 use Rattle.tokens.specs.Ended.{record_words}
 use Rattle.tokens.specs.Buffer.{Holds, lex_number, is_asked_first, front_of}
 use Rattle.tokens.specs.declared.record.Record.{Record}
 use Rattle.tokens.specs.declared.lexer.Lexeme.{Lexeme}
-use Rattle.tokens.specs.declared.lexer.Lexeme.TheVariants.{Token}
 use Rattle.tokens.specs.declared.lexer.Lexed.{Lexed}
-use Rattle.tokens.specs.declared.lexer.Lexed.TheVariants.{Refused}
+use Rattle.tokens.specs.declared.lexer.Refusal.{Refusal}
 use Rattle.tokens.proofs.LayoutLaws.{laid}
 use Rattle.tokens.proofs.BufferLaws.{written-front, written-size}
 
 -- ---- at most 1,024 records, also where the lexer refuses
 
-few_words : (n : ℕ) (q : Place) (x : Lexeme) (rest : Place → Lexing) → ((p : Place) → length (record_words (rest p)) ≤ n * record_size) →
+few_words : (n : ℕ) (q : Place) (x : Result Lexeme ℕ) (rest : Place → Lexing) → ((p : Place) → length (record_words (rest p)) ≤ n * record_size) →
     length (record_words (lexeme q x rest)) ≤ suc n * record_size
 unfolding record_words words_of
-few_words n q (Token kind number a b next) rest h = let few = h next in omega arith
-few_words n q (Lexeme.Refused number) rest h = omega arith
+few_words n q (Ok t) rest h = let few = h t.next in omega arith
+few_words n q (Err number) rest h = omega arith
 
-few-at : (n : ℕ) (s : List ℕ) (q : Place) (x : Step) (rest : Place → Lexing) → ((p : Place) → length (record_words (rest p)) ≤ n * record_size) →
+few-at : (n : ℕ) (s : List ℕ) (q : Place) (x : Option (ℕ × Place)) (rest : Place → Lexing) → ((p : Place) → length (record_words (rest p)) ≤ n * record_size) →
     length (record_words (lex_at s q x rest)) ≤ suc n * record_size
 unfolding record_words
-few-at n s q (Next c next) rest h = few_words n q (token_at s q c next) rest h
-few-at n s q Stop rest h = omega arith
+few-at n s q (Some (c, next)) rest h = few_words n q (token_at s q c next) rest h
+few-at n s q None rest h = omega arith
 
-none-at : (q : Place) (x : Step) → length (record_words (lex_no_more q x)) ≤ 0
+none-at : (q : Place) (x : Option (ℕ × Place)) → length (record_words (lex_no_more q x)) ≤ 0
 unfolding record_words
-none-at q (Next c next) = omega arith
-none-at q Stop = omega arith
+none-at q (Some (c, next)) = omega arith
+none-at q None = omega arith
 
 most-words_from : (n : ℕ) (s : List ℕ) (p : Place) → length (record_words (lex_from n s p)) ≤ n * record_size
 unfolding lex_from
@@ -161,13 +158,13 @@ pub asked-held : (number : ℕ) (s words : List ℕ) → is_asked_first number �
 unfolding front_of
 asked-held number s words e = rw e (unchanged words)
 
-checked-held : (s words : List ℕ) → least_words ≤ length words → (c : Checked) → Holds (front_of (lex_number (answer_by s c)) s) words (words_by s words c)
+checked-held : (s words : List ℕ) → least_words ≤ length words → (c : Result Unit IllFormed) → Holds (front_of (lex_number (answer_by s c)) s) words (words_by s words c)
 unfolding answer_by words_by lex_number
-checked-held s words h WellFormed = lexed-held s words h
-checked-held s words h (IllFormed line column) = asked-held 4 s words refl
+checked-held s words h (Ok _) = lexed-held s words h
+checked-held s words h (Err at) = asked-held 4 s words refl
 
 held_by : (s words : List ℕ) (t u : Bool) → (u ≡ false → least_words ≤ length words) →
-    Holds (front_of (lex_number (pick t (Refused 1 0 0) (pick u (Refused 2 0 0) (answer_by s (check_of s))))) s) words
+    Holds (front_of (lex_number (pick t (refusal 1 0 0) (pick u (refusal 2 0 0) (answer_by s (check_of s))))) s) words
     (pick t words (pick u words (words_by s words (check_of s))))
 unfolding lex_number
 held_by s words true u h = asked-held 1 s words refl
@@ -180,6 +177,6 @@ unfolding lex_answer lex_words
 lex-held s words = held_by s words (ltb most_bytes (length s)) (ltb (length words) least_words) (ltb-false (length words) least_words)
 
 -- the same of what a call that answers x left in the words, beside what it promises
-pub with_holds : (s words : List ℕ) {x : Lexed} {exit : List ℕ} → (x ≡ lex_answer s words) × (exit ≡ lex_words s words) →
+pub with_holds : (s words : List ℕ) {x : Result Lexed Refusal} {exit : List ℕ} → (x ≡ lex_answer s words) × (exit ≡ lex_words s words) →
     ((x ≡ lex_answer s words) × (exit ≡ lex_words s words)) × Holds (front_of (lex_number x) s) words exit
 with_holds s words h = (h, rw (h.0, h.1) (lex-held s words))

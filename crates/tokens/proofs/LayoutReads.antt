@@ -1,4 +1,5 @@
 -- Reading from one place of a text to another: the characters passed, where that leads, and the bytes that they take.
+use Rattle.std.specs.Prelude.{Option, Some, None}
 use mathlib.Core.Path.{◌≡◌, ◌∙◌, refl, ap, sym}
 use Prim.Native.Nat.{ℕ, ◌+◌, ◌-◌, ◌<◌, ◌≤◌}
 use native.Mathlib.Omega.{arith}
@@ -14,8 +15,6 @@ use Rattle.text.specs.Part.{part_of}
 use Rattle.text.specs.Place.{after, step_of, walked}
 use Rattle.text.specs.declared.utf8.Decoded.{Decoded}
 use Rattle.text.specs.declared.place.Place.{Place}
-use Rattle.text.specs.declared.place.Step.{Step}
-use Rattle.text.specs.declared.place.Step.TheVariants.{Next, Stop}
 use Rattle.text.proofs.Utf8Rules.{stands}
 use Rattle.text.proofs.CharLaws.{chars-char, chars-bad, chars-end}
 use Rattle.text.proofs.PartLaws.{part_none}
@@ -36,14 +35,14 @@ then none k = k
 then (more h t) k = more h (then t k)
 
 -- what a look at a place says: a step, or that no character begins there
-unfoldable pub Looked : List ℕ → Place → Step → Type 0
-Looked s p (Next c n) = Stepped s p c n
-Looked s p Stop = Stopped s p
+unfoldable pub Looked : List ℕ → Place → Option (ℕ × Place) → Type 0
+Looked s p (Some (c, n)) = Stepped s p c n
+Looked s p None = Stopped s p
 
-looked-by : (s : List ℕ) (p : Place) (x : Step) → step_of p (chars s p.at) ≡ x → Looked s p x
+looked-by : (s : List ℕ) (p : Place) (x : Option (ℕ × Place)) → step_of p (chars s p.at) ≡ x → Looked s p x
 unfolding Looked
-looked-by s p (Next c n) e = step-next s p c n e
-looked-by s p Stop e = step_stop s p e
+looked-by s p (Some (c, n)) e = step-next s p c n e
+looked-by s p None e = step_stop s p e
 
 pub looked : (s : List ℕ) (p : Place) → Looked s p (step_of p (chars s p.at))
 looked s p = looked-by s p (step_of p (chars s p.at)) refl

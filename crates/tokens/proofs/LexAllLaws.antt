@@ -1,4 +1,5 @@
 -- The loop over the tokens of a text: what is left to read gives the answer and the words of the whole text.
+use Rattle.std.specs.Prelude.{Option, Some, None, Result, Ok, Err}
 use Prim.Native.Nat.{ℕ, zero, suc, ◌+◌, ◌-◌, ◌≤◌}
 use native.Mathlib.Omega.{arith}
 use mathlib.Core.Path.{◌≡◌, ◌∙◌, refl, sym, ap}
@@ -6,17 +7,14 @@ use mathlib.Core.List.{List}
 use lib.ListN.{length}
 use Rattle.text.specs.Place.{start}
 use Rattle.text.specs.declared.place.Place.{Place}
-use Rattle.text.specs.declared.place.Step.{Step}
-use Rattle.text.specs.declared.place.Step.TheVariants.{Next, Stop}
 use Rattle.tokens.specs.Token.{look, token_at}
 use Rattle.tokens.specs.Record.{written}
 use Rattle.tokens.specs.Lexing.{record_of, Lexing, ended, refused, most_tokens}
-use Rattle.tokens.specs.Lex.{lexeme, lex_at, lex_no_more, behind, lex_from, lex_text, answer_from, written_from}
+use Rattle.tokens.specs.Lex.{lexed, refusal, lexeme, lex_at, lex_no_more, behind, lex_from, lex_text, answer_from, written_from}
 use Rattle.tokens.specs.declared.record.Record.{Record}
 use Rattle.tokens.specs.declared.lexer.Lexeme.{Lexeme}
-use Rattle.tokens.specs.declared.lexer.Lexeme.TheVariants.{Token}
 use Rattle.tokens.specs.declared.lexer.Lexed.{Lexed}
-use Rattle.tokens.specs.declared.lexer.Lexed.TheVariants.{Tokens, Refused}
+use Rattle.tokens.specs.declared.lexer.Refusal.{Refusal}
 
 -- at p, with count records in the words: what is left to read gives the answer and the words of the whole text
 pub record Going (s words₀ words : List ℕ) (p : Place) (count : ℕ) : Type 0 where
@@ -26,11 +24,11 @@ pub record Going (s words₀ words : List ℕ) (p : Place) (count : ℕ) : Type 
   pub stored : written_from 0 words₀ (lex_text s) ≡ written_from count words (lex_from (most_tokens - count) s p)
 
 -- what is promised
-pub record Done (s words₀ words : List ℕ) (r : Lexed) : Type 0 where
+pub record Done (s words₀ words : List ℕ) (r : Result Lexed Refusal) : Type 0 where
   pub answer : r ≡ answer_from 0 (lex_text s)
   pub stored : words ≡ written_from 0 words₀ (lex_text s)
 
-pub both : {s words₀ words : List ℕ} {r : Lexed} → Done s words₀ words r →
+pub both : {s words₀ words : List ℕ} {r : Result Lexed Refusal} → Done s words₀ words r →
     (r ≡ answer_from 0 (lex_text s)) × (words ≡ written_from 0 words₀ (lex_text s))
 both d = (d.answer, d.stored)
 
@@ -39,7 +37,7 @@ unfolding lex_text
 begin s words p e = record { room = omega arith; long = refl; answer = rw e; stored = rw e }
 
 -- what is left to read is l, which writes no more
-pub finish : {s words₀ words : List ℕ} {p : Place} {count : ℕ} (l : Lexing) {r : Lexed} → Going s words₀ words p count →
+pub finish : {s words₀ words : List ℕ} {p : Place} {count : ℕ} (l : Lexing) {r : Result Lexed Refusal} → Going s words₀ words p count →
     lex_from (most_tokens - count) s p ≡ l → r ≡ answer_from count l → words ≡ written_from count words l → Done s words₀ words r
 finish l g e h k =
     record {
@@ -48,29 +46,29 @@ finish l g e h k =
     }
 
 -- no character is left
-pub from-stop : (n : ℕ) (s : List ℕ) (p : Place) → look s (behind s p) ≡ Stop → lex_from n s p ≡ ended (behind s p)
+pub from-stop : (n : ℕ) (s : List ℕ) (p : Place) → look s (behind s p) ≡ None → lex_from n s p ≡ ended (behind s p)
 unfolding lex_from
 from-stop zero s p e = ap (lex_no_more (behind s p)) e
-from-stop (suc n) s p e = ap (λ (x : Step). lex_at s (behind s p) x (lex_from n s)) e
+from-stop (suc n) s p e = ap (λ (x : Option (ℕ × Place)). lex_at s (behind s p) x (lex_from n s)) e
 
 -- the loop's body: a is what stands at q, behind white space and comments
-module _ {s words₀ words : List ℕ} {p q : Place} {count : ℕ} {a : Step} (going : Going s words₀ words p count)
+module _ {s words₀ words : List ℕ} {p q : Place} {count : ℕ} {a : Option (ℕ × Place)} (going : Going s words₀ words p count)
     (skipped : q ≡ behind s p) (seen : a ≡ look s q) where
-  pub at_end_rule : {r : Lexed} → a ≡ Stop → r ≡ Tokens count q.line q.column → Done s words₀ words r
+  pub at_end_rule : {r : Result Lexed Refusal} → a ≡ None → r ≡ lexed count q.line q.column → Done s words₀ words r
   unfolding answer_from written_from
   at_end_rule m e =
       finish (ended q) going (from-stop (most_tokens - count) s p (rw skipped at (sym seen ∙ m)) ∙ ap ended (sym skipped)) e refl
 
-  module _ {c : ℕ} {next : Place} (here : a ≡ Next c next) where
+  module _ {c : ℕ} {next : Place} (here : a ≡ Some (c, next)) where
     -- a token after 1,024
-    pub full : {r : Lexed} → count ≡ most_tokens → r ≡ Refused 19 q.line q.column → Done s words₀ words r
+    pub full : {r : Result Lexed Refusal} → count ≡ most_tokens → r ≡ refusal 19 q.line q.column → Done s words₀ words r
     unfolding lex_from answer_from written_from
     full h e =
         let n : most_tokens - count ≡ 0 = omega arith in
         finish (refused 19 q) going (rw (n, ← skipped, sym seen ∙ here)) e refl
 
     -- x is the token, or its refusal
-    module _ {x : Lexeme} (left : count ≡ most_tokens → ⊥) (read : x ≡ token_at s q c next) where
+    module _ {x : Result Lexeme ℕ} (left : count ≡ most_tokens → ⊥) (read : x ≡ token_at s q c next) where
       pub from-token : lex_from (most_tokens - count) s p ≡ lexeme q x (lex_from (most_tokens - (count + 1)) s)
       unfolding lex_from
       from-token =
@@ -78,17 +76,17 @@ module _ {s words₀ words : List ℕ} {p q : Place} {count : ℕ} {a : Step} (g
           let n : most_tokens - count ≡ suc (most_tokens - (count + 1)) = omega arith in
           rw (n, ← skipped, sym seen ∙ here, read)
 
-      pub no_token_rule : {number : ℕ} {r : Lexed} → x ≡ Lexeme.Refused number → r ≡ Refused number q.line q.column → Done s words₀ words r
+      pub no_token_rule : {number : ℕ} {r : Result Lexed Refusal} → x ≡ Err number → r ≡ refusal number q.line q.column → Done s words₀ words r
       unfolding answer_from written_from
       no_token_rule {number} k e = finish (refused number q) going (from-token ∙ rw k) e refl
 
-      pub go_on : {more : List ℕ} {end : Place} {kind number from to : ℕ} {r : Record} → x ≡ Token kind number from to end →
-          r ≡ record_of kind number from to q → more ≡ written words count r → length more ≡ length words →
-          Going s words₀ more end (count + 1)
+      pub go_on : {more : List ℕ} {t : Lexeme} {r : Record} → x ≡ Ok t →
+          r ≡ record_of t.kind t.number t.start t.end q → more ≡ written words count r → length more ≡ length words →
+          Going s words₀ more t.next (count + 1)
       unfolding answer_from written_from
       go_on k u w z =
           let i = going.room in
-          let l = from-token ∙ ap (λ (x : Lexeme). lexeme q x (lex_from (most_tokens - (count + 1)) s)) k in
+          let l = from-token ∙ ap (λ (x : Result Lexeme ℕ). lexeme q x (lex_from (most_tokens - (count + 1)) s)) k in
           record {
             room = omega arith;
             long = z ∙ going.long;

@@ -1,5 +1,6 @@
 -- Every place of a lexing lies within its text, and in a text that passes question 1 nothing is cut: lines, columns, starts and lengths are the
 -- numbers themselves (specs/Placed.antt), in the words of the records, too.
+use Rattle.std.specs.Prelude.{Result, Ok, Err}
 use mathlib.Core.Path.{◌≡◌, ◌∙◌, refl, sym, subst}
 use Prim.Native.Nat.{ℕ, zero, suc, ◌+◌, ◌-◌, ◌≤◌}
 use native.Mathlib.Omega.{arith}
@@ -14,14 +15,14 @@ use Rattle.text.proofs.WithinLaws.{counted-most, counted-exact, row_fits, walked
 use Rattle.tokens.specs.Kind.{STRING}
 use Rattle.tokens.specs.Record.{capacity, half_word, words_of, word_at, kind_at, number_at, start_at, length_at, line_at, column_at}
 use Rattle.tokens.specs.Lexing.{Lexing, ended, refused, token, record_of, most_bytes}
-use Rattle.tokens.specs.Lex.{lex_text, answer_from}
+use Rattle.tokens.specs.Lex.{lexed, refusal, lex_text, answer_from}
 use Rattle.tokens.specs.Rules.{first_byte, end_byte}
 use Rattle.tokens.specs.Layout.{Spelled, Laid}
 use Rattle.tokens.specs.Ended.{record_words, token_line, token_column}
 use Rattle.tokens.specs.Placed.{Each, at_end_rule, at_refusal, at_token, record_at, zeros, token_record, InWord, AllInWord, RecordWithin, EndExact, RefusalExact, RecordExact}
 use Rattle.tokens.specs.declared.record.Record.{Record}
 use Rattle.tokens.specs.declared.lexer.Lexed.{Lexed}
-use Rattle.tokens.specs.declared.lexer.Lexed.TheVariants.{Tokens, Refused}
+use Rattle.tokens.specs.declared.lexer.Refusal.{Refusal}
 use Rattle.tokens.proofs.LayoutReads.{walked_on, row}
 use Rattle.tokens.proofs.LayoutLaws.{laid}
 use Rattle.tokens.proofs.SpelledLaws.{string-some}
@@ -239,9 +240,9 @@ exact-at s short i h =
 -- ---- in the answers
 
 -- the line and the column of an answer
-unfoldable OfAnswer : (ℕ → ℕ → Type 0) → (ℕ → ℕ → Type 0) → Lexed → Type 0
-OfAnswer E F (Tokens count line column) = E line column
-OfAnswer E F (Refused number line column) = F line column
+unfoldable OfAnswer : (ℕ → ℕ → Type 0) → (ℕ → ℕ → Type 0) → Result Lexed Refusal → Type 0
+OfAnswer E F (Ok t) = E t.line t.column
+OfAnswer E F (Err r) = F r.line r.column
 
 answer_in : {E F : ℕ → ℕ → Type 0} {T : Record → Type 0} {l : Lexing} → Each E F T l → (n : ℕ) → OfAnswer E F (answer_from n l)
 unfolding answer_from OfAnswer
@@ -249,7 +250,7 @@ answer_in (at_end_rule p) n = p
 answer_in (at_refusal p) n = p
 answer_in (at_token t e) n = answer_in e (n + 1)
 
-module _ (s : List ℕ) {count line column : ℕ} (is : answer_from 0 (lex_text s) ≡ Tokens count line column) where
+module _ (s : List ℕ) {count line column : ℕ} (is : answer_from 0 (lex_text s) ≡ lexed count line column) where
   pub ended-within : Within s line column
   unfolding OfAnswer
   ended-within = rw is at (answer_in (placed s) 0)
@@ -261,7 +262,7 @@ module _ (s : List ℕ) {count line column : ℕ} (is : answer_from 0 (lex_text 
   unfolding OfAnswer
   ended_exactly short = rw is at (answer_in (placed_exactly s short) 0)
 
-module _ (s : List ℕ) {number line column : ℕ} (is : answer_from 0 (lex_text s) ≡ Refused number line column) where
+module _ (s : List ℕ) {number line column : ℕ} (is : answer_from 0 (lex_text s) ≡ refusal number line column) where
   pub refused-within : Within s line column
   unfolding OfAnswer
   refused-within = rw is at (answer_in (placed s) 0)

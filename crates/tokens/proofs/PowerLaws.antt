@@ -2,6 +2,7 @@
 use Prim.Native.Nat.{ℕ, zero, suc, ◌+◌, ◌-◌, ◌*◌, ◌^◌, ◌<◌, ◌≤◌}
 use mathlib.Core.Path.{◌≡◌, ◌∙◌, refl, ap, subst, sym}
 use native.Mathlib.Omega.{arith}
+use native.Mathlib.Decide.{dec_lt}
 use native.Mathlib.Numerals.{add-one}
 use native.Mathlib.Nat.{pow-suc, pow-succ', mul-one, mul_assoc, mul-le-mul_left, mul-le-mul, pow-le-pow_right}
 
@@ -35,6 +36,10 @@ word-product a b h k =
     let q : b ≤ 4294967295 = omega arith in
     mul-le-mul p q
 
--- 64 bits hold a lower power times ten
-pub ten-held : (d i : ℕ) {w : ℕ} → w ≡ 10 ^ i → 10 ^ d < 2 ^ 64 → (i + 1 ≤ d) → w * 10 < 2 ^ 64
-ten-held d i e h k = omega (arith, ten-suc i, ten-le k)
+-- 64 bits hold no power of ten above 10^19
+held-by : (d : ℕ) → 10 ^ d < 2 ^ 64 → Dec (d < 20) → d < 20
+held-by d h (yes p) = p
+held-by d h (no p) = absurd (omega (arith, ten-le {i = 20} {j = d} (omega (arith, p))))
+
+pub ten-held : (d : ℕ) → 10 ^ d < 2 ^ 64 → d < 20
+ten-held d h = held-by d h (dec_lt d 20)

@@ -1,4 +1,5 @@
 -- By the rules of specs/Rules.antt every row of characters has a gap and a shape at its front, and every shape a verdict.
+use Rattle.std.specs.Prelude.{Result}
 use mathlib.Core.Path.{◌≡◌, ◌∙◌, refl, ap, sym}
 use mathlib.Core.Bool.{Bool, true, false}
 use Prim.Native.Nat.{ℕ, zero, suc, ◌+◌, ◌-◌, ◌*◌, ◌^◌, ◌≤◌}
@@ -18,7 +19,6 @@ use Rattle.tokens.specs.Rules.{All, Without, Stops, Run, run, Trivia, Trailing, 
 use Rattle.tokens.specs.Amount.{JudgedAmount, fine, long, exact}
 use Rattle.tokens.specs.Token.{single_kind, pair_kind}
 use Rattle.tokens.specs.Duration.{unit_of}
-use Rattle.tokens.specs.declared.duration.Amount.{Amount}
 use Rattle.tokens.proofs.AmountLaws.{amount-judged}
 
 -- a test holds or it does not
@@ -475,7 +475,7 @@ unit-some UnitOf.s e = omega arith
 unit-some UnitOf.m e = omega arith
 unit-some UnitOf.h e = omega arith
 
-exact-judged : {ws fs us : List ℕ} {unit : ℕ} {x : Amount} → Small (Shape.amount ws fs us) → UnitOf us unit →
+exact-judged : {ws fs us : List ℕ} {unit : ℕ} {x : Result ℕ ℕ} → Small (Shape.amount ws fs us) → UnitOf us unit →
     JudgedAmount (value ws) (value fs) (length fs) unit x → VerdictFound (Shape.amount ws fs us)
 exact-judged s u (fine n) = (refuse 18, Judged.fine s u n)
 exact-judged s u (long a m) = (refuse 17, Judged.long s u a m)

@@ -1,4 +1,5 @@
 -- Every row of characters has a lexing by the rules of specs/Rules.antt, and it is the one that specs/Lex.antt gives: so there is exactly one.
+use Rattle.std.specs.Prelude.{Option, None, Result}
 use mathlib.Core.Path.{◌≡◌, ◌∙◌, refl, ap, sym, subst}
 use Prim.Native.Nat.{ℕ, zero, suc, ◌+◌, ◌*◌, ◌%◌, ◌≤◌}
 use native.Mathlib.Omega.{arith}
@@ -10,8 +11,6 @@ use Rattle.text.specs.Rfc3629.Utf8Char.{utf8_1, utf8_2, utf8_3_e0, utf8_3_e1, ut
 use Rattle.text.specs.Utf8.{codes, chars}
 use Rattle.text.specs.Place.{start, line_after, column_after}
 use Rattle.text.specs.declared.place.Place.{Place}
-use Rattle.text.specs.declared.place.Step.{Step}
-use Rattle.text.specs.declared.place.Step.TheVariants.{Stop}
 use Rattle.text.proofs.StepLaws.{Stepped}
 use Rattle.text.proofs.PlaceRules.{line-walked, column-walked, octets-codes}
 use Rattle.tokens.specs.Token.{look}
@@ -75,21 +74,21 @@ place_read {p} {cs} r =
 
 -- ---- the lexer gives what the rules allow
 
-end_is : (n : ℕ) (s : List ℕ) (p : Place) {q : Place} → behind s p ≡ q → look s q ≡ Stop → lex_from n s p ≡ ended q
+end_is : (n : ℕ) (s : List ℕ) (p : Place) {q : Place} → behind s p ≡ q → look s q ≡ None → lex_from n s p ≡ ended q
 unfolding lex_from
 end_is zero s p {q} e h = ap (λ (x : Place). lex_no_more x (look s x)) e ∙ ap (lex_no_more q) h
 end_is (suc n) s p {q} e h =
-    ap (λ (x : Place). lex_at s x (look s x) (lex_from n s)) e ∙ ap (λ (x : Step). lex_at s q x (lex_from n s)) h
+    ap (λ (x : Place). lex_at s x (look s x) (lex_from n s)) e ∙ ap (λ (x : Option (ℕ × Place)). lex_at s q x (lex_from n s)) h
 
 many_is : {s : List ℕ} (p : Place) {q n : Place} {c : ℕ} → behind s p ≡ q → Stepped s q c n → lex_from zero s p ≡ refused 19 q
 unfolding lex_from
 many_is {s} p {q} e h = ap (λ (x : Place). lex_no_more x (look s x)) e ∙ ap (lex_no_more q) (look-next h)
 
-given_is : (n : ℕ) {s : List ℕ} (p : Place) {q : Place} {x : Lexeme} → behind s p ≡ q → Given s q x → lex_from (suc n) s p ≡ lexeme q x (lex_from n s)
+given_is : (n : ℕ) {s : List ℕ} (p : Place) {q : Place} {x : Result Lexeme ℕ} → behind s p ≡ q → Given s q x → lex_from (suc n) s p ≡ lexeme q x (lex_from n s)
 unfolding lex_from
 given_is n {s} p {q} e g =
-    ap (λ (x : Place). lex_at s x (look s x) (lex_from n s)) e ∙ ap (λ (x : Step). lex_at s q x (lex_from n s)) (look-next g.step)
-    ∙ ap (λ (x : Lexeme). lexeme q x (lex_from n s)) g.is
+    ap (λ (x : Place). lex_at s x (look s x) (lex_from n s)) e ∙ ap (λ (x : Option (ℕ × Place)). lex_at s q x (lex_from n s)) (look-next g.step)
+    ∙ ap (λ (x : Result Lexeme ℕ). lexeme q x (lex_from n s)) g.is
 
 too_many-is : {s : List ℕ} (p : Place) {q : Place} {r : List ℕ} → behind s p ≡ q → Left s q r → Begins r → lex_from zero s p ≡ refused 19 q
 too_many-is p e l (begins h k) = many_is p e (ahead l).step

@@ -1,4 +1,5 @@
 -- What the scans of specs/Scan.antt come to over the rows of characters that specs/Rules.antt speaks of.
+use Rattle.std.specs.Prelude.{Some, None, Ok, Err}
 use mathlib.Core.Path.{◌≡◌, ◌∙◌, refl, ap, sym, subst}
 use mathlib.Core.Bool.{Bool, true, false}
 use Prim.Native.Nat.{ℕ, ◌+◌, ◌-◌, ◌*◌, ◌<◌, ◌≤◌}
@@ -11,13 +12,10 @@ use Rattle.text.specs.Utf8.{Character, codes, chars}
 use Rattle.text.specs.Place.{after, step_of}
 use Rattle.text.specs.Ascii.{is_digit}
 use Rattle.text.specs.declared.place.Place.{Place}
-use Rattle.text.specs.declared.place.Step.TheVariants.{Next, Stop}
 use Rattle.text.proofs.StepLaws.{Stepped}
 use Rattle.tokens.specs.Scan.{passed, trivia_mode, trivia, quoted, with_digit, digits}
 use Rattle.tokens.specs.Token.{look}
 use Rattle.tokens.specs.Rules.{All, Without, Stops, Trivia, Trailing, Begins, begins, LineEnd, value_from, most_run}
-use Rattle.tokens.specs.declared.scan.Quoted.TheVariants.{Closed, Unterminated}
-use Rattle.tokens.specs.declared.scan.Run.TheVariants.{Number, TooLarge}
 use Rattle.tokens.proofs.LayoutReads.{Reads, none, more, met}
 use Rattle.tokens.proofs.LayoutScan.{class-first}
 use Rattle.tokens.proofs.RulesFound.{told}
@@ -90,15 +88,15 @@ left_behind r (more {c} h t) l =
     record { are = ap codes h.rest ∙ ap (λ (x : List ℕ). c ∷ x) (left_behind r t l).are }
 
 -- a look at a place
-pub look-next : {s : List ℕ} {q n : Place} {c : ℕ} → Stepped s q c n → look s q ≡ Next c n
+pub look-next : {s : List ℕ} {q n : Place} {c : ℕ} → Stepped s q c n → look s q ≡ Some (c, n)
 unfolding step_of
-look-next {q} {c} h = ap (step_of q) h.rest ∙ ap (Next c) (sym h.is)
+look-next {q} {c} h = ap (step_of q) h.rest ∙ ap (λ (x : Place). Some (c, x)) (sym h.is)
 
 none_left : (l : List Character) → codes l ≡ [] → l ≡ []
 none_left [] e = refl
 none_left (ch ∷ cs) e = never-none (sym e)
 
-pub look_stop : {s : List ℕ} {q : Place} → Left s q [] → look s q ≡ Stop
+pub look_stop : {s : List ℕ} {q : Place} → Left s q [] → look s q ≡ None
 unfolding step_of
 look_stop {s} {q} h = ap (step_of q) (none_left (chars s q.at) h.are)
 
@@ -126,11 +124,11 @@ digits_step v {s} {p} {n} {c} h d k =
     ∙ rw (d, le-ltb most_run (with_digit v c) k) (ap (λ (x : Place). digits (with_digit v c) x (chars s n.at)) (sym h.is))
 
 digits-over : (v : ℕ) {s : List ℕ} {p n : Place} {c : ℕ} → Stepped s p c n → is_digit c ≡ true → most_run < with_digit v c →
-    digits v p (chars s p.at) ≡ TooLarge
+    digits v p (chars s p.at) ≡ None
 unfolding digits
 digits-over v {s} {p} {n} {c} h d k = ap (digits v p) h.rest ∙ rw (d, lt-ltb most_run (with_digit v c) k)
 
-digits_stop : (v : ℕ) (q : Place) (l : List Character) {r : List ℕ} → codes l ≡ r → Stops is_digit r → digits v q l ≡ Number v q
+digits_stop : (v : ℕ) (q : Place) (l : List Character) {r : List ℕ} → codes l ≡ r → Stops is_digit r → digits v q l ≡ Some (v, q)
 unfolding digits
 digits_stop v q [] e k = refl
 digits_stop v q (ch ∷ cs) e Stops.at_end_rule = never-none (sym e)
@@ -143,7 +141,7 @@ grows v (c ∷ cs) = omega (arith, grows (v * 10 + (c - 0x30)) cs)
 
 -- a scan over digits gives the number that they write
 pub digits-row : {s : List ℕ} (v : ℕ) {p q : Place} {ds r : List ℕ} → Reads s p q ds → All is_digit ds → Left s q r → Stops is_digit r →
-    value_from v ds ≤ most_run → digits v p (chars s p.at) ≡ Number (value_from v ds) q
+    value_from v ds ≤ most_run → digits v p (chars s p.at) ≡ Some (value_from v ds, q)
 unfolding value_from with_digit
 digits-row {s} v {p} none All.none l k m = digits_stop v p (chars s p.at) l.are k
 digits-row v (more h t) (All.more {c} {cs} a b) l k m =
@@ -151,7 +149,7 @@ digits-row v (more h t) (All.more {c} {cs} a b) l k m =
 
 -- or refuses it
 pub digits-large : {s : List ℕ} (v : ℕ) {p q : Place} {ds : List ℕ} → v ≤ most_run → Reads s p q ds → All is_digit ds → most_run < value_from v ds →
-    digits v p (chars s p.at) ≡ TooLarge
+    digits v p (chars s p.at) ≡ None
 unfolding value_from with_digit
 digits-large v e none All.none m = absurd (omega arith)
 digits-large v e (more h t) (All.more {c} {cs} a b) m =
@@ -168,23 +166,23 @@ unfolding quoted
 quoted-step {s} {p} {n} {c} h f g =
     ap (quoted p) h.rest ∙ rw (ne_eqb c 0x22 f, ne_eqb c 0x0A g) (ap (λ (x : Place). quoted x (chars s n.at)) (sym h.is))
 
-quoted-close : {s : List ℕ} {p n : Place} → Stepped s p 0x22 n → quoted p (chars s p.at) ≡ Closed p.at n
+quoted-close : {s : List ℕ} {p n : Place} → Stepped s p 0x22 n → quoted p (chars s p.at) ≡ Ok (p.at, n)
 unfolding quoted
-quoted-close {p} h = ap (quoted p) h.rest ∙ ap (Closed p.at) (sym h.is)
+quoted-close {p} h = ap (quoted p) h.rest ∙ ap (λ (x : Place). Ok (p.at, x)) (sym h.is)
 
 pub quoted-row : {s : List ℕ} {p q n : Place} {cs : List ℕ} → Reads s p q cs → Without 0x22 cs → Without 0x0A cs → Stepped s q 0x22 n →
-    quoted p (chars s p.at) ≡ Closed q.at n
+    quoted p (chars s p.at) ≡ Ok (q.at, n)
 quoted-row none Without.none Without.none k = quoted-close k
 quoted-row (more h t) (Without.more f a) (Without.more g b) k = quoted-step h f g ∙ quoted-row t a b k
 
-quoted-end : (q : Place) (l : List Character) {r : List ℕ} → codes l ≡ r → LineEnd r → quoted q l ≡ Unterminated q.at
+quoted-end : (q : Place) (l : List Character) {r : List ℕ} → codes l ≡ r → LineEnd r → quoted q l ≡ Err q.at
 unfolding quoted
 quoted-end q [] e k = refl
 quoted-end q (ch ∷ cs) e LineEnd.at_end_rule = never-none (sym e)
 quoted-end q (ch ∷ cs) e LineEnd.at_feed = rw (first-same e)
 
 pub quoted-line : {s : List ℕ} {p q : Place} {cs r : List ℕ} → Reads s p q cs → Without 0x22 cs → Without 0x0A cs → Left s q r → LineEnd r →
-    quoted p (chars s p.at) ≡ Unterminated q.at
+    quoted p (chars s p.at) ≡ Err q.at
 quoted-line {s} {p} none Without.none Without.none l k = quoted-end p (chars s p.at) l.are k
 quoted-line (more h t) (Without.more f a) (Without.more g b) l k = quoted-step h f g ∙ quoted-line t a b l k
 

@@ -1,4 +1,5 @@
 -- The token that specs/Token.antt gives at a place is the one that the rules of specs/Rules.antt allow there.
+use Rattle.std.specs.Prelude.{Result, Ok, Err}
 use mathlib.Core.Path.{◌≡◌, ◌∙◌, refl, ap, sym}
 use mathlib.Core.Bool.{Bool, true, false}
 use Prim.Native.Nat.{ℕ, ◌+◌, ◌-◌, ◌*◌, ◌/◌, ◌^◌, ◌<◌, ◌≤◌}
@@ -18,12 +19,9 @@ use Rattle.tokens.specs.Kind.{WORD, STRING, INTEGER, TIME, DECIMAL, OPEN}
 use Rattle.tokens.specs.Scan.{quoted, digits}
 use Rattle.tokens.specs.Duration.{unit_of}
 use Rattle.tokens.specs.Amount.{JudgedAmount, fine, long, exact}
-use Rattle.tokens.specs.Token.{look, single_kind, pair_kind, single, punct, string, spanning, digits_in, time_by, time, decimal, amount_to, duration_by, duration, fraction_at, fraction, point, number_at, number, word, token_at}
+use Rattle.tokens.specs.Token.{made, look, single_kind, pair_kind, single, punct, string, spanning, digits_in, time_by, time, decimal, amount_to, duration_by, duration, fraction_at, fraction, point, number_at, number, word, token_at}
 use Rattle.tokens.specs.Rules.{All, Without, Stops, Run, run, NoLonger, LineEnd, EndsInteger, Shape, Shaped, value_from, value, UnitOf, DigitRun, most_run, IsTime, TenThousandths, most_decimal, Verdict, worth, refuse, Judged, first_byte, end_byte}
-use Rattle.tokens.specs.declared.scan.Quoted.TheVariants.{Closed}
-use Rattle.tokens.specs.declared.duration.Amount.{Amount}
 use Rattle.tokens.specs.declared.lexer.Lexeme.{Lexeme}
-use Rattle.tokens.specs.declared.lexer.Lexeme.TheVariants.{Token, Refused}
 use Rattle.tokens.proofs.PowerLaws.{ten-pos}
 use Rattle.tokens.proofs.AmountLaws.{amount-only}
 use Rattle.tokens.proofs.LayoutReads.{Reads, none, more, byte-long, octets, ascii-octets, ascii-length}
@@ -32,12 +30,12 @@ use Rattle.tokens.proofs.RulesFound.{told, symbol-kind, single-symbol, pair-symb
 use Rattle.tokens.proofs.RulesScan.{Left, ahead, halves, uncons, left_behind, look-next, look_stop, class-row, digits-row, digits-large, quoted-row, quoted-line}
 
 -- the lexeme of a verdict on the characters from p to q
-unfoldable pub lexeme_of : Verdict → Place → Place → Lexeme
-lexeme_of (worth kind number) p q = Token kind number (first_byte kind p) (end_byte kind q) q
-lexeme_of (refuse number) p q = Refused number
+unfoldable pub lexeme_of : Verdict → Place → Place → Result Lexeme ℕ
+lexeme_of (worth kind number) p q = made kind number (first_byte kind p) (end_byte kind q) q
+lexeme_of (refuse number) p q = Err number
 
 -- a character stands at p, and the token there is x
-pub record Given (s : List ℕ) (p : Place) (x : Lexeme) : Type 0 where
+pub record Given (s : List ℕ) (p : Place) (x : Result Lexeme ℕ) : Type 0 where
   pub first : ℕ
   pub next : Place
   pub step : Stepped s p first next
@@ -102,7 +100,7 @@ unfolding token_at
 quote-at s p n = refl
 
 closed_is : {s : List ℕ} {p n m q : Place} → Stepped s p 0x22 n → Stepped s m 0x22 q →
-    string n (Closed m.at q) ≡ lexeme_of (worth STRING 0) p q
+    string n (Ok (m.at, q)) ≡ lexeme_of (worth STRING 0) p q
 unfolding string lexeme_of first_byte end_byte
 closed_is {p} {n} {m} {q} a b =
     let e : n.at ≡ p.at + 1 = byte-long a (omega arith) in
@@ -122,7 +120,7 @@ string-only {s} {p} {cs} a b (more {n} t r) =
     string_end a b t x.one x.two
 
 unclosed-only : {s : List ℕ} {p q : Place} {cs rest : List ℕ} → Without 0x22 cs → Without 0x0A cs → LineEnd rest → Reads s p q (0x22 ∷ cs) →
-    Left s q rest → Given s p (Refused 11)
+    Left s q rest → Given s p (Err 11)
 unfolding string
 unclosed-only {s} {p} a b e (more {n} t r) l =
     record { first = 0x22; next = n; step = t; is = quote-at s p n ∙ ap (string n) (quoted-line r a b l e) }
@@ -177,12 +175,12 @@ no-single {c} r h =
 no-pair : {c : ℕ} {r : List ℕ} → NoLonger 0 (c ∷ r) → NoLonger 1 (c ∷ r)
 no-pair h = record { most = λ u rest kind k e. omega (arith, h.most u rest kind k e) }
 
-single-none : {c : ℕ} (p n : Place) (r : List ℕ) → NoLonger 0 (c ∷ r) → single c p n ≡ Refused 10
+single-none : {c : ℕ} (p n : Place) (r : List ℕ) → NoLonger 0 (c ∷ r) → single c p n ≡ Err 10
 unfolding single
 single-none p n r h = rw (no-single r h)
 
 nothing-only : {s : List ℕ} {p q : Place} {c : ℕ} {rest : List ℕ} → Plain c → NoLonger 0 (c ∷ rest) → Reads s p q (c ∷ []) → Left s q rest →
-    Given s p (Refused 10)
+    Given s p (Err 10)
 nothing-only {s} {p} {c} {rest} h m (more {n} t none) l =
     record { first = c; next = n; step = t; is = sign_at s p n h ∙ single_punct p n rest l (no-pair m) ∙ single-none p n rest m }
 
@@ -195,7 +193,7 @@ number_at_lem c s p n h = rw (ne_eqb c 0x22 (λ e. omega (arith, digit_low c h))
 pub run-all : {class : ℕ → Bool} {cs : List ℕ} → Run class cs → All class cs
 run-all (run h a) = All.more h a
 
-number_small : {s : List ℕ} {p q : Place} {ds r : List ℕ} {x : Lexeme} → Run is_digit ds → Reads s p q ds → Left s q r → Stops is_digit r →
+number_small : {s : List ℕ} {p q : Place} {ds r : List ℕ} {x : Result Lexeme ℕ} → Run is_digit ds → Reads s p q ds → Left s q r → Stops is_digit r →
     value ds ≤ most_run → number_at s p (value ds) q (look s q) ≡ x → Given s p x
 unfolding number value
 number_small {s} {p} (run {c} h a) (more {n} t r) l k m e =
@@ -206,7 +204,7 @@ number_small {s} {p} (run {c} h a) (more {n} t r) l k m e =
       is = number_at_lem c s p n h ∙ ap (number s p) (digits-row 0 (more t r) (All.more h a) l k m) ∙ e;
     }
 
-number-large : {s : List ℕ} {p q : Place} {ds : List ℕ} → Run is_digit ds → Reads s p q ds → most_run < value ds → Given s p (Refused 12)
+number-large : {s : List ℕ} {p q : Place} {ds : List ℕ} → Run is_digit ds → Reads s p q ds → most_run < value ds → Given s p (Err 12)
 unfolding number value
 number-large {s} {p} (run {c} h a) (more {n} t r) m =
     record {
@@ -275,10 +273,10 @@ unfolding time_by lexeme_of first_byte end_byte
 time-yes {hs} {ms} p e t =
     rw (le-ltb 2 (length hs) t.hours, eq-eqb (length ms) 2 t.minutes, le-ltb 23 (value hs) t.hour, le-ltb 59 (value ms) t.minute)
 
-time-no : {hs ms : List ℕ} (p e : Place) → (IsTime hs ms → ⊥) → time_by p (value hs) (length hs) (value ms) (length ms) e ≡ Refused 13
+time-no : {hs ms : List ℕ} (p e : Place) → (IsTime hs ms → ⊥) → time_by p (value hs) (length hs) (value ms) (length ms) e ≡ Err 13
 unfolding time_by
 time-no {hs} {ms} p e n =
-    let P : Lexeme → Type 0 = λ x. x ≡ Refused 13 in
+    let P : Result Lexeme ℕ → Type 0 = λ x. x ≡ Err 13 in
     picked P (ltb 2 (length hs)) (λ h. refl)
     (λ h. picked P (eqb (length ms) 2)
     (λ m. picked P (ltb 23 (value hs)) (λ k. refl)
@@ -377,11 +375,11 @@ ten_thousandths_one : {ws fs : List ℕ} {n : ℕ} → TenThousandths ws fs n �
 ten_thousandths_one {ws} {fs} t =
     ten-one (length fs) ((ten_thousandths ws fs t.places).proportion ∙ sym t.proportion)
 
-decimal-many : (p e : Place) (w v d : ℕ) → 4 < d → decimal p w v d e ≡ Refused 15
+decimal-many : (p e : Place) (w v d : ℕ) → 4 < d → decimal p w v d e ≡ Err 15
 unfolding decimal
 decimal-many p e w v d h = rw (lt-ltb 4 d h)
 
-decimal-high : (p e : Place) (w v d : ℕ) {n : ℕ} → d ≤ 4 → w * 10000 + v * 10 ^ (4 - d) ≡ n → most_decimal < n → decimal p w v d e ≡ Refused 12
+decimal-high : (p e : Place) (w v d : ℕ) {n : ℕ} → d ≤ 4 → w * 10000 + v * 10 ^ (4 - d) ≡ n → most_decimal < n → decimal p w v d e ≡ Err 12
 unfolding decimal
 decimal-high p e w v d {n} h k m = rw (le-ltb 4 d h, k, le-ltb n 4294967296 (omega arith))
 
@@ -424,15 +422,15 @@ duration-at : {s : List ℕ} (p : Place) (w v d : ℕ) {u q : Place} {us r : Lis
 unfolding duration
 duration-at p w v d r a l k = rw (class-row r a l k, ascii-octets (octets r) (all_of alpha_ascii a))
 
-judged-is : (p e : Place) (w v d : ℕ) {us : List ℕ} {unit : ℕ} {x : Amount} → UnitOf us unit → JudgedAmount w v d unit x →
+judged-is : (p e : Place) (w v d : ℕ) {us : List ℕ} {unit : ℕ} {x : Result ℕ ℕ} → UnitOf us unit → JudgedAmount w v d unit x →
     duration_by p (unit_of us) w v d e ≡ amount_to p e x
 unfolding duration_by
 judged-is p e w v d {unit} u j = rw (unit-only u, ne_eqb unit 0 (unit-some u), amount-only w v d unit j)
 
-no-unit-is : (p e : Place) (w v d : ℕ) (us : List ℕ) → ((unit : ℕ) → UnitOf us unit → ⊥) → duration_by p (unit_of us) w v d e ≡ Refused 16
+no-unit-is : (p e : Place) (w v d : ℕ) (us : List ℕ) → ((unit : ℕ) → UnitOf us unit → ⊥) → duration_by p (unit_of us) w v d e ≡ Err 16
 unfolding duration_by
 no-unit-is p e w v d us n =
-    picked (λ (x : Lexeme). x ≡ Refused 16) (eqb (unit_of us) 0) (λ h. refl)
+    picked (λ (x : Result Lexeme ℕ). x ≡ Err 16) (eqb (unit_of us) 0) (λ h. refl)
     (λ h. absurd (n (unit_of us) (unit-found us (eqb-false (unit_of us) 0 h))))
 
 amount-worth : {ws fs us : List ℕ} {v : Verdict} (p e : Place) → Judged (Shape.amount ws fs us) v → value ws ≤ most_run → value fs ≤ most_run →

@@ -1,6 +1,7 @@
 -- Laws on the scans: where each ends, and that behind a character that it passes it ends alike; then the same at a byte, as the loops
 -- read it.
 -- What a callee answered stands beside its contract, as the code has it: r, k or d.
+use Rattle.std.specs.Prelude.{Option, Some, None, Result, Ok, Err}
 use mathlib.Core.Path.{◌≡◌, ◌∙◌, refl, ap, subst, sym}
 use mathlib.Core.Bool.{Bool, true, false, not, false≢true}
 use mathlib.Core.List.{List, [], ◌∷◌}
@@ -24,8 +25,6 @@ use Rattle.text.specs.Place.{counted, after, step_of}
 use Rattle.text.specs.declared.utf8.Decoded.{Decoded}
 use Rattle.text.specs.declared.utf8.Decoded.TheVariants.{Char, Bad, End}
 use Rattle.text.specs.declared.place.Place.{Place}
-use Rattle.text.specs.declared.place.Step.{Step}
-use Rattle.text.specs.declared.place.Step.TheVariants.{Next, Stop}
 use Rattle.text.specs.White.{is_white, white_space, among}
 use Rattle.text.proofs.Tests.{picked, over-range}
 use Rattle.text.proofs.WhiteLaws.{none_above}
@@ -38,23 +37,19 @@ use Rattle.text.proofs.PlaceRules.{count_on}
 use Rattle.text.proofs.StepLaws.{Stepped, Stopped, step-next, step_stop}
 use Rattle.text.specs.Ascii.{is_digit, is_alpha, is_word_start, is_word_part}
 use Rattle.tokens.specs.Scan.{passed, is_plain, trivia_mode, trivia, quoted, with_digit, digits}
-use Rattle.tokens.specs.declared.scan.Quoted.{Quoted}
-use Rattle.tokens.specs.declared.scan.Quoted.TheVariants.{Closed, Unterminated}
-use Rattle.tokens.specs.declared.scan.Run.{Run}
-use Rattle.tokens.specs.declared.scan.Run.TheVariants.{Number, TooLarge}
 
 -- in a loop, where the scan from here ends as the scan from the start does: an answer a of bump, taken apart, leaves what holds of the
 -- scan from here
-module _ (s : List ℕ) (p : Place) {a : Step} (b : a ≡ step_of p (chars s p.at)) where
-  pub at_next : {A : Type 0} {x here start : A} {code : ℕ} {next : Place} → here ≡ start → a ≡ Next code next →
+module _ (s : List ℕ) (p : Place) {a : Option (ℕ × Place)} (b : a ≡ step_of p (chars s p.at)) where
+  pub at_next : {A : Type 0} {x here start : A} {code : ℕ} {next : Place} → here ≡ start → a ≡ Some (code, next) →
       (Stepped s p code next → x ≡ here) → x ≡ start
   at_next i m f = f (step-next s p _ _ (sym b ∙ m)) ∙ i
 
-  pub at_stop : {A : Type 0} {x here start : A} → here ≡ start → a ≡ Stop → (Stopped s p → x ≡ here) → x ≡ start
+  pub at_stop : {A : Type 0} {x here start : A} → here ≡ start → a ≡ None → (Stopped s p → x ≡ here) → x ≡ start
   at_stop i m f = f (step_stop s p (sym b ∙ m)) ∙ i
 
   -- behind a character less of the text is left
-  pub less-left : {code : ℕ} {next : Place} → a ≡ Next code next → length s - next.at < length s - p.at
+  pub less-left : {code : ℕ} {next : Place} → a ≡ Some (code, next) → length s - next.at < length s - p.at
   less-left m =
       let t = step-next s p _ _ (sym b ∙ m) in
       omega arith
@@ -69,11 +64,11 @@ module _ {s : List ℕ} {p : Place} (t : Stopped s p) where
   unfolding trivia
   trivia_stop mode = rw t.rest
 
-  pub quoted_stop : Unterminated p.at ≡ quoted p (chars s p.at)
+  pub quoted_stop : Err p.at ≡ quoted p (chars s p.at)
   unfolding quoted
   quoted_stop = rw t.rest
 
-  digits_stop : (v : ℕ) → Number v p ≡ digits v p (chars s p.at)
+  digits_stop : (v : ℕ) → Some (v, p) ≡ digits v p (chars s p.at)
   unfolding digits
   digits_stop v = rw t.rest
 
@@ -97,11 +92,11 @@ module _ {s : List ℕ} {p : Place} {code : ℕ} {next : Place} (t : Stepped s p
   unfolding trivia
   trivia-step mode e h = rw (t.rest, ← e, ne_eqb _ _ h, ← t.is)
 
-  quoted-quote : code ≡ 0x22 → Closed p.at next ≡ quoted p (chars s p.at)
+  quoted-quote : code ≡ 0x22 → Ok (p.at, next) ≡ quoted p (chars s p.at)
   unfolding quoted
   quoted-quote h = rw (t.rest, eq-eqb _ _ h, ← t.is)
 
-  quoted-line : code ≡ 0x0A → Unterminated p.at ≡ quoted p (chars s p.at)
+  quoted-line : code ≡ 0x0A → Err p.at ≡ quoted p (chars s p.at)
   unfolding quoted
   quoted-line h = rw (t.rest, h)
 
@@ -109,12 +104,12 @@ module _ {s : List ℕ} {p : Place} {code : ℕ} {next : Place} (t : Stepped s p
   unfolding quoted
   quoted-step h k = rw (t.rest, ne_eqb _ _ h, ne_eqb _ _ k, ← t.is)
 
-  digits-here : (v : ℕ) {r : Bool} → r ≡ is_digit code → not r ≡ true → Number v p ≡ digits v p (chars s p.at)
+  digits-here : (v : ℕ) {r : Bool} → r ≡ is_digit code → not r ≡ true → Some (v, p) ≡ digits v p (chars s p.at)
   unfolding digits
   digits-here v {r} e h = rw (t.rest, ← e, not-true r h)
 
   digits-over : (v : ℕ) {r : Bool} {d : ℕ} → r ≡ is_digit code → not r ≡ false → d ≡ code - 0x30 → 1000000000 < v * 10 + d →
-      TooLarge ≡ digits v p (chars s p.at)
+      None ≡ digits v p (chars s p.at)
   unfolding digits with_digit
   digits-over v {r} e h w k = rw (t.rest, ← e, not-false r h, ← w, lt-ltb _ _ k)
 
@@ -169,7 +164,7 @@ leads (end h) = tt
 decoded-step : (s : List ℕ) (p : Place) (c n : ℕ) {next : Place} → decode_at s p.at ≡ Char c n →
     after p (record { code = c; next = n }) ≡ next → Stepped s p c next
 unfolding step_of
-decoded-step s p c n d e = step-next s p c _ (ap (step_of p) (chars-char s p.at c n d) ∙ ap (Next c) e)
+decoded-step s p c n d e = step-next s p c _ (ap (step_of p) (chars-char s p.at c n d) ∙ ap (λ (x : Place). Some (c, x)) e)
 
 inside-by : (s : List ℕ) (at : ℕ) → get_or s at 0x80 < 0x80 → Dec (at < length s) → at < length s
 inside-by s at h (yes k) = k
@@ -232,7 +227,7 @@ module _ (s : List ℕ) (at : ℕ) {b : ℕ} (e : b ≡ get_or s at 0x80) where
 
     -- what bump answers there
     pub byte-seen : (p : Place) {q : Place} → q ≡ after p (record { code = b; next = at + 1 }) →
-        Next b q ≡ step_of p (chars s at)
+        Some (b, q) ≡ step_of p (chars s at)
     unfolding step_of
     byte-seen p u = rw (chars-char s at b (at + 1) byte-decoded, u)
 
@@ -271,12 +266,12 @@ module _ (class : ℕ → Bool) (printed : Printed class) where
 
   -- the byte b at the offset, and whether it is in the class, r
   module _ (s : List ℕ) (at : ℕ) {b : ℕ} (e : b ≡ get_or s at 0x80) {r : Bool} (f : r ≡ class b) where
-    ended_by : (line column : ℕ) (x : Step) → step_of (place at line column) (chars s at) ≡ x → class b ≡ false →
+    ended_by : (line column : ℕ) (x : Option (ℕ × Place)) → step_of (place at line column) (chars s at) ≡ x → class b ≡ false →
         Ended class s (place at line column)
-    ended_by line column (Next code next) d h =
+    ended_by line column (Some (code, next)) d h =
         let t = step-next s (place at line column) code next d in
         stepped t (outside (step-lead s at e t) h)
-    ended_by line column Stop d h = stopped (step_stop s (place at line column) d)
+    ended_by line column None d h = stopped (step_stop s (place at line column) d)
 
     ended : (line column : ℕ) → not r ≡ true → Ended class s (place at line column)
     ended line column h = ended_by line column (step_of (place at line column) (chars s at)) refl (sym f ∙ not-true r h)
@@ -297,7 +292,7 @@ passed-ended : {class : ℕ → Bool} {s : List ℕ} {p : Place} → Ended class
 passed-ended {class} (stopped t) = passed_stop t class
 passed-ended {class} (stepped t e) = passed_here t class e refl
 
-digits-ended : {s : List ℕ} {p : Place} (v : ℕ) → Ended is_digit s p → Number v p ≡ digits v p (chars s p.at)
+digits-ended : {s : List ℕ} {p : Place} (v : ℕ) → Ended is_digit s p → Some (v, p) ≡ digits v p (chars s p.at)
 digits-ended v (stopped t) = digits_stop t v
 digits-ended v (stepped t e) = digits-here t v e refl
 
@@ -383,13 +378,13 @@ module _ (class : ℕ → Bool) (s : List ℕ) (at line column : ℕ) {start : P
       passed class (place (at + 1) line up) (chars s (at + 1)) ≡ start
   passed_on h u = passed-step (byte_in class printed s at e f h line column u) class f h ∙ i
 
-module _ (s : List ℕ) (at line column v : ℕ) {start : Run} (i : digits v (place at line column) (chars s at) ≡ start) {b : ℕ}
+module _ (s : List ℕ) (at line column v : ℕ) {start : Option (ℕ × Place)} (i : digits v (place at line column) (chars s at) ≡ start) {b : ℕ}
     (e : b ≡ get_or s at 0x80) {r : Bool} (f : r ≡ is_digit b) where
-  pub digits_end : not r ≡ true → Number v (place at line column) ≡ start
+  pub digits_end : not r ≡ true → Some (v, place at line column) ≡ start
   digits_end h = digits-ended v (ended is_digit digits-printed s at e f line column h) ∙ i
 
   module _ {d : ℕ} (h : not r ≡ false) (w : d ≡ b - 0x30) where
-    pub digits-many : 1000000000 < v * 10 + d → TooLarge ≡ start
+    pub digits-many : 1000000000 < v * 10 + d → None ≡ start
     digits-many k = digits-over (byte_in is_digit digits-printed s at e f h line column refl) v f h w k ∙ i
 
     pub digits_on_lem : {up : ℕ} → v * 10 + d ≤ 1000000000 → up ≡ counted (column + 1) →
@@ -488,21 +483,21 @@ module _ (s : List ℕ) (p q : Place) {start : Place} (i : trivia 1 p (chars s p
       let k = line_modes h in
       sym (trivia-step t 0 k.0 (λ x. omega arith)) ∙ trivia-step t 1 k.1 (λ x. omega arith) ∙ m ∙ i
 
-  module _ {a : Step} (g : a ≡ step_of q (chars s q.at)) where
-    pub comment_stop : a ≡ Stop → trivia 0 q (chars s q.at) ≡ start
+  module _ {a : Option (ℕ × Place)} (g : a ≡ step_of q (chars s q.at)) where
+    pub comment_stop : a ≡ None → trivia 0 q (chars s q.at) ≡ start
     comment_stop h =
         let t = step_stop s q (sym g ∙ h) in
         sym (trivia_stop t 0) ∙ trivia_stop t 1 ∙ m ∙ i
 
-    pub comment-on : {code : ℕ} {next : Place} {b : ℕ} → a ≡ Next code next → b ≡ get_or s q.at 0x80 → (b ≡ 0x0A → ⊥) →
+    pub comment-on : {code : ℕ} {next : Place} {b : ℕ} → a ≡ Some (code, next) → b ≡ get_or s q.at 0x80 → (b ≡ 0x0A → ⊥) →
         trivia 1 next (chars s next.at) ≡ start
     comment-on {code} {next} n e h =
         let t = step-next s q code next (sym g ∙ n) in
         trivia-step t 1 (comment_mode (lead-other h (omega arith) (step-lead s q.at e t))) (λ x. omega arith) ∙ m ∙ i
 
 -- its loop goes on behind p, and less of the text is left
-module _ (s : List ℕ) (p q : Place) {a : Step} {code : ℕ} {next : Place} (l : p.at ≤ q.at) (g : a ≡ step_of q (chars s q.at))
-    (n : a ≡ Next code next) where
+module _ (s : List ℕ) (p q : Place) {a : Option (ℕ × Place)} {code : ℕ} {next : Place} (l : p.at ≤ q.at) (g : a ≡ step_of q (chars s q.at))
+    (n : a ≡ Some (code, next)) where
   pub comment-behind : {first : ℕ} → first ≤ p.at → first ≤ next.at
   comment-behind h =
       let t = step-next s q code next (sym g ∙ n) in
@@ -523,8 +518,8 @@ module _ (s : List ℕ) (at : ℕ) {b n : ℕ} (e : b ≡ get_or s at 0x80) (h :
       let z = inside s at e (omega arith) in
       omega arith
 
-pub place-less : (s : List ℕ) (at line column : ℕ) {a : Step} {code : ℕ} {next : Place} → a ≡ step_of (place at line column) (chars s at) →
-    a ≡ Next code next → length s - next.at < length s - at
+pub place-less : (s : List ℕ) (at line column : ℕ) {a : Option (ℕ × Place)} {code : ℕ} {next : Place} → a ≡ step_of (place at line column) (chars s at) →
+    a ≡ Some (code, next) → length s - next.at < length s - at
 place-less s at line column g n = less-left s (place at line column) g n
 
 -- over white space and comments
@@ -538,18 +533,18 @@ module _ (s : List ℕ) (at line column : ℕ) {start : Place} (i : trivia 0 (pl
   pub trivia-on : {up : ℕ} → b ≡ 0x20 → up ≡ counted (column + 1) → trivia 0 (place (at + 1) line up) (chars s (at + 1)) ≡ start
   trivia-on h u = trivia-step (byte_step s at e (omega arith) line column (λ x. omega arith) u) 0 (space_mode h) (λ x. omega arith) ∙ i
 
-  pub trivia-white : {a : Step} {code : ℕ} {next : Place} {r : Bool} → a ≡ step_of (place at line column) (chars s at) →
-      a ≡ Next code next → r ≡ is_white code → not r ≡ false → trivia 0 next (chars s next.at) ≡ start
+  pub trivia-white : {a : Option (ℕ × Place)} {code : ℕ} {next : Place} {r : Bool} → a ≡ step_of (place at line column) (chars s at) →
+      a ≡ Some (code, next) → r ≡ is_white code → not r ≡ false → trivia 0 next (chars s next.at) ≡ start
   trivia-white {a} {code} {next} g n f h =
       trivia-step (step-next s (place at line column) code next (sym g ∙ n)) 0 (white_mode code f h) (λ x. omega arith) ∙ i
 
-  pub trivia-token : {a : Step} {code : ℕ} {next : Place} {r : Bool} → a ≡ step_of (place at line column) (chars s at) →
-      a ≡ Next code next → r ≡ is_white code → not r ≡ true → (b ≡ 0x23 → ⊥) → place at line column ≡ start
+  pub trivia-token : {a : Option (ℕ × Place)} {code : ℕ} {next : Place} {r : Bool} → a ≡ step_of (place at line column) (chars s at) →
+      a ≡ Some (code, next) → r ≡ is_white code → not r ≡ true → (b ≡ 0x23 → ⊥) → place at line column ≡ start
   trivia-token {a} {code} {next} g n f h k =
       let t = step-next s (place at line column) code next (sym g ∙ n) in
       trivia-here t 0 (token_mode code f h (lead-other k (omega arith) (step-lead s at e t))) refl ∙ i
 
-  pub trivia-none : {a : Step} → a ≡ step_of (place at line column) (chars s at) → a ≡ Stop → place at line column ≡ start
+  pub trivia-none : {a : Option (ℕ × Place)} → a ≡ step_of (place at line column) (chars s at) → a ≡ None → place at line column ≡ start
   trivia-none g n = trivia_stop (step_stop s (place at line column) (sym g ∙ n)) 0 ∙ i
 
   pub trivia-comment : {up : ℕ} (q : Place) → b ≡ 0x23 → up ≡ counted (column + 1) →
@@ -565,11 +560,11 @@ module _ (s : List ℕ) (at line column : ℕ) {b : ℕ} (e : b ≡ get_or s at 
       let k = lead_high h (step-lead s at e t) in
       quoted-step t (λ n. omega arith) (λ n. omega arith)
 
-  module _ {start : Quoted} (i : quoted (place at line column) (chars s at) ≡ start) (k : b < 0x80) where
-    pub quoted-close : {up : ℕ} → b ≡ 0x22 → up ≡ counted (column + 1) → Closed at (place (at + 1) line up) ≡ start
+  module _ {start : Result (ℕ × Place) ℕ} (i : quoted (place at line column) (chars s at) ≡ start) (k : b < 0x80) where
+    pub quoted-close : {up : ℕ} → b ≡ 0x22 → up ≡ counted (column + 1) → Ok (at, place (at + 1) line up) ≡ start
     quoted-close n u = quoted-quote (byte_step s at e k line column (λ m. omega arith) u) n ∙ i
 
-    pub quoted-end : b ≡ 0x0A → Unterminated at ≡ start
+    pub quoted-end : b ≡ 0x0A → Err at ≡ start
     quoted-end n = quoted-line (byte-any s at e k line column) n ∙ i
 
     pub quoted-on : {up : ℕ} → (b ≡ 0x22 → ⊥) → (b ≡ 0x0A → ⊥) → up ≡ counted (column + 1) →

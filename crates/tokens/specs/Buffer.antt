@@ -1,11 +1,11 @@
 -- What the lent words hold after a call, word by word (document 01: "Acceptance is four zeros; the buffer then holds every token's record, its
 -- other words unchanged.", and for refusals the records before the refused token).
-use Rattle.std.specs.Prelude.{ℕ, ◌<◌, ◌≤◌, ◌≡◌, List, [], length, get_or, Bool, true, eqb}
+use Rattle.std.specs.Prelude.{ℕ, ◌<◌, ◌≤◌, ◌≡◌, List, [], length, get_or, Bool, true, eqb, Result, Ok, Err}
 use Rattle.text.specs.Choice.{pick, within}
 use Rattle.tokens.specs.Lex.{lex_text}
 use Rattle.tokens.specs.Ended.{record_words}
 use Rattle.tokens.specs.declared.lexer.Lexed.{Lexed}
-use Rattle.tokens.specs.declared.lexer.Lexed.TheVariants.{Tokens, Refused}
+use Rattle.tokens.specs.declared.lexer.Refusal.{Refusal}
 
 -- the first words at exit are those of front, and every other word is the one that was there
 pub record Holds (front entry exit : List ℕ) : Type 0 where
@@ -14,9 +14,9 @@ pub record Holds (front entry exit : List ℕ) : Type 0 where
   pub others : (k : ℕ) → length front ≤ k → get_or exit k 0 ≡ get_or entry k 0
 
 -- 0, or the number of the refusal
-unfoldable pub lex_number : Lexed → ℕ
-lex_number (Tokens count line column) = 0
-lex_number (Refused number line column) = number
+unfoldable pub lex_number : Result Lexed Refusal → ℕ
+lex_number (Ok t) = 0
+lex_number (Err r) = r.number
 
 -- the questions that are asked before the text is lexed: 1 to 4, and 53 (document 02, §6: "after question 4")
 abbrev pub is_asked_first : ℕ → Bool

@@ -1,15 +1,12 @@
 -- What is seen of tokens, and the steps over them (document 01: "expect takes the equal token, else 20").
-use Rattle.std.specs.Prelude.{ℕ, ◌+◌, List, [], Bool, true, false, ltb, eqb}
+use Rattle.std.specs.Prelude.{ℕ, ◌+◌, List, [], Bool, true, false, Option, Some, None, Result, Ok, Err, ltb, eqb}
 use Rattle.text.specs.Choice.{pick, within}
 use Rattle.text.specs.Part.{same_bytes}
 use Rattle.tokens.specs.Kind.{WORD, STRING, INTEGER}
 use Rattle.tokens.specs.Record.{capacity, kind_at, number_at, bytes_at}
 use Rattle.tokens.specs.Result.{Res, ok, no, bind, refuse}
 use Rattle.tokens.specs.declared.cursor.Cursor.{Cursor}
-use Rattle.tokens.specs.declared.cursor.Taken.{Taken}
-use Rattle.tokens.specs.declared.cursor.Taken.TheVariants.{Got, No}
-use Rattle.tokens.specs.declared.cursor.Accepted.{Accepted}
-use Rattle.tokens.specs.declared.cursor.Accepted.TheVariants.{Yes, Left}
+use Rattle.tokens.specs.declared.cursor.Refusal.{Refusal}
 
 -- a token as the definitions above this layer see it: no place, no offset, no layout
 pub record Tok : Type 0 where
@@ -55,10 +52,13 @@ unfoldable pub advanced : List ℕ → ℕ → ℕ
 advanced words i = pick (ltb i (capacity words)) (i + 1) i
 
 -- the answers of the code
-unfoldable pub to_taken : Res ℕ → Taken
-to_taken (ok n i) = Got n (at i)
-to_taken (no r) = No r
+abbrev pub Taken : Type 0 → Type 0
+Taken A = Result (A × Cursor) Refusal
 
-unfoldable pub accepted : Bool → ℕ → Accepted
-accepted true i = Yes (at (i + 1))
-accepted false i = Left
+unfoldable pub to_taken : {A : Type 0} → Res A → Taken A
+to_taken (ok a i) = Ok (a, at i)
+to_taken (no r) = Err r
+
+unfoldable pub accepted : Bool → ℕ → Option Cursor
+accepted true i = Some (at (i + 1))
+accepted false i = None

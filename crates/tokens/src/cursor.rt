@@ -6,12 +6,20 @@ ghost use Rattle.tokens.specs.Cursor.{tokens, is_word, is_kind, take_kind, take_
 
 use crate::{kind, record};
 
+// A text with the words that hold the records of its tokens.
+#[derive(Clone, Copy)]
+pub struct Tokens<'a> {
+    pub text: &'a [u8],
+    pub words: &'a [u32],
+}
+
 #[derive(Clone, Copy)]
 pub struct Cursor {
     pub index: usize,
 }
 
-// A refusal, at the token with an index: the count of the tokens stands for the end of the text.
+// A refusal, at the token with an index: the count of the tokens stands for the end of the text. The number is that of the documents and
+// of the C interface.
 #[derive(Clone, Copy)]
 pub struct Refusal {
     pub number: u32,
@@ -19,19 +27,8 @@ pub struct Refusal {
     pub detail: u32,
 }
 
-// The token's number, 0 of a token that has none, and the cursor behind it; or a refusal.
-#[derive(Clone, Copy)]
-pub enum Taken {
-    Got(u32, Cursor),
-    No(Refusal),
-}
-
-// The cursor behind a token that was there, or that it was not.
-#[derive(Clone, Copy)]
-pub enum Accepted {
-    Yes(Cursor),
-    Left,
-}
+// What a step takes: a value and the cursor behind it, or a refusal. A token's value is its number, 0 where it has none.
+pub type Taken<T> = Result<(T, Cursor), Refusal>;
 
 // A refusal with no detail.
 pub fn refuse(number: u32, token: usize) -> Refusal
@@ -44,18 +41,17 @@ pub fn refuse(number: u32, token: usize) -> Refusal
     }
 }
 
-// The bytes of a word, or of a string between its quotes; none of any other token.
-pub fn bytes<'a, 'b>(text: &'a [u8], words: &'b [u32], i: usize) -> &'a [u8]
-    ensures { result.now ≡ (tokens text.now words.now i).bytes }
-{
-    let here = record::kind(words, i);
-    if here == kind::WORD {
-        return record::bytes(text, words, i);
+impl<'a> Tokens<'a> {
+    // The bytes of a word, or of a string between its quotes; none of any other token.
+    #[tactic(auto, unfolding(crate::specs::Cursor::tokens, crate::specs::Cursor::bytes_of))]
+    pub fn bytes(&self, i: usize) -> &'a [u8]
+        ensures { result.now ≡ (tokens self.now.text.now self.now.words.now i).bytes }
+    {
+        match record::kind(self.words, i) {
+            kind::WORD | kind::STRING => record::bytes(self.text, self.words, i),
+            _ => &self.text[..0],
+        }
     }
-    if here == kind::STRING {
-        return record::bytes(text, words, i);
-    }
-    &text[..0]
 }
 
 impl Cursor {
@@ -76,8 +72,7 @@ impl Cursor {
     pub fn peek(self, words: &[u32]) -> u32
         ensures { result ≡ kind_at words.now self.index }
     {
-        let i = self.index;
-        record::kind(words, i)
+        record::kind(words, self.index)
     }
 
     // The kind of the token behind it; 0 at the end.
@@ -103,111 +98,99 @@ impl Cursor {
     }
 
     // Is the token in hand of a kind?
-    pub fn peek_is(self, text: &[u8], words: &[u32], kind: u32) -> bool
-        ensures { result ≡ is_kind (tokens text.now words.now) kind self.index }
+    pub fn peek_is(self, t: &Tokens<'_>, kind: u32) -> bool
+        ensures { result ≡ is_kind (tokens t.now.text.now t.now.words.now) kind self.index }
     {
-        let i = self.index;
-        let here = record::kind(words, i);
-        if here == 0 {
-            return false;
-        }
-        here == kind
+        let here = self.peek(t.words);
+        here != 0 && here == kind
     }
 
     // Is the token in hand this word?
-    pub fn peek_kw(self, text: &[u8], words: &[u32], word: &[u8]) -> bool
-        ensures { result ≡ is_word (tokens text.now words.now) word.now self.index }
+    pub fn peek_kw(self, t: &Tokens<'_>, word: &[u8]) -> bool
+        ensures { result ≡ is_word (tokens t.now.text.now t.now.words.now) word.now self.index }
     {
-        let i = self.index;
-        if record::kind(words, i) == kind::WORD {
-            return text::part::each_same(bytes(text, words, i), word);
+        if self.peek(t.words) == kind::WORD {
+            return text::part::each_same(t.bytes(self.index), word);
         }
         false
     }
 
-    pub fn accept(self, text: &[u8], words: &[u32], kind: u32) -> Accepted
-        ensures { result ≡ accepted (is_kind (tokens text.now words.now) kind self.index) self.index }
+    // Behind the token in hand, if it is of a kind.
+    pub fn accept(self, t: &Tokens<'_>, kind: u32) -> Option<Cursor>
+        ensures { result ≡ accepted (is_kind (tokens t.now.text.now t.now.words.now) kind self.index) self.index }
     {
-        if self.peek_is(text, words, kind) {
-            return Accepted::Yes(self.advance(words));
+        if self.peek_is(t, kind) {
+            return Some(self.advance(t.words));
         }
-        Accepted::Left
+        None
     }
 
-    pub fn accept_kw(self, text: &[u8], words: &[u32], word: &[u8]) -> Accepted
-        ensures { result ≡ accepted (is_word (tokens text.now words.now) word.now self.index) self.index }
+    // Behind the token in hand, if it is this word.
+    pub fn accept_kw(self, t: &Tokens<'_>, word: &[u8]) -> Option<Cursor>
+        ensures { result ≡ accepted (is_word (tokens t.now.text.now t.now.words.now) word.now self.index) self.index }
     {
-        if self.peek_kw(text, words, word) {
-            return Accepted::Yes(self.advance(words));
+        if self.peek_kw(t, word) {
+            return Some(self.advance(t.words));
         }
-        Accepted::Left
+        None
     }
 
     // The token in hand, if it is of a kind; else 20.
-    pub fn expect(self, text: &[u8], words: &[u32], kind: u32) -> Taken
-        ensures { result ≡ to_taken (take_kind (tokens text.now words.now) kind self.index) }
+    pub fn expect(self, t: &Tokens<'_>, kind: u32) -> Taken<u32>
+        ensures { result ≡ to_taken (take_kind (tokens t.now.text.now t.now.words.now) kind self.index) }
     {
         let i = self.index;
-        if self.peek_is(text, words, kind) {
-            return Taken::Got(record::number(words, i), self.advance(words));
+        if self.peek_is(t, kind) {
+            return Ok((record::number(t.words, i), self.advance(t.words)));
         }
-        Taken::No(refuse(20, i))
+        Err(refuse(20, i))
     }
 
     // The token in hand, if it is this word; else 20.
-    pub fn expect_kw(self, text: &[u8], words: &[u32], word: &[u8]) -> Taken
-        ensures { result ≡ to_taken (take_word (tokens text.now words.now) word.now self.index) }
+    pub fn expect_kw(self, t: &Tokens<'_>, word: &[u8]) -> Taken<u32>
+        ensures { result ≡ to_taken (take_word (tokens t.now.text.now t.now.words.now) word.now self.index) }
     {
-        let i = self.index;
-        if self.peek_kw(text, words, word) {
-            return Taken::Got(0, self.advance(words));
+        if self.peek_kw(t, word) {
+            return Ok((0, self.advance(t.words)));
         }
-        Taken::No(refuse(20, i))
+        Err(refuse(20, self.index))
     }
 
     // Any word; its bytes stand at the index where the cursor stood.
-    pub fn expect_ident(self, text: &[u8], words: &[u32]) -> Taken
-        ensures { result ≡ to_taken (take_kind (tokens text.now words.now) 1 self.index) }
+    pub fn expect_ident(self, t: &Tokens<'_>) -> Taken<u32>
+        ensures { result ≡ to_taken (take_kind (tokens t.now.text.now t.now.words.now) 1 self.index) }
     {
-        self.expect(text, words, kind::WORD)
+        self.expect(t, kind::WORD)
     }
 
     // A string; its bytes stand at the index where the cursor stood.
-    pub fn expect_string(self, text: &[u8], words: &[u32]) -> Taken
-        ensures { result ≡ to_taken (take_kind (tokens text.now words.now) 2 self.index) }
+    pub fn expect_string(self, t: &Tokens<'_>) -> Taken<u32>
+        ensures { result ≡ to_taken (take_kind (tokens t.now.text.now t.now.words.now) 2 self.index) }
     {
-        self.expect(text, words, kind::STRING)
+        self.expect(t, kind::STRING)
     }
 
-    pub fn expect_int(self, text: &[u8], words: &[u32]) -> Taken
-        ensures { result ≡ to_taken (take_kind (tokens text.now words.now) 3 self.index) }
+    pub fn expect_int(self, t: &Tokens<'_>) -> Taken<u32>
+        ensures { result ≡ to_taken (take_kind (tokens t.now.text.now t.now.words.now) 3 self.index) }
     {
-        self.expect(text, words, kind::INTEGER)
+        self.expect(t, kind::INTEGER)
     }
 
-    pub fn expect_duration(self, text: &[u8], words: &[u32]) -> Taken
-        ensures { result ≡ to_taken (take_kind (tokens text.now words.now) 5 self.index) }
+    pub fn expect_duration(self, t: &Tokens<'_>) -> Taken<u32>
+        ensures { result ≡ to_taken (take_kind (tokens t.now.text.now t.now.words.now) 5 self.index) }
     {
-        self.expect(text, words, kind::DURATION)
+        self.expect(t, kind::DURATION)
     }
 
     // An integer from low to high; else 20, or 22 at the number.
-    pub fn expect_int_in(self, text: &[u8], words: &[u32], low: u32, high: u32) -> Taken
-        ensures { result ≡ to_taken (take_in (tokens text.now words.now) low high self.index) }
+    #[tactic(auto, unfolding(crate::specs::Cursor::take_in, crate::specs::Cursor::to_taken))]
+    pub fn expect_int_in(self, t: &Tokens<'_>, low: u32, high: u32) -> Taken<u32>
+        ensures { result ≡ to_taken (take_in (tokens t.now.text.now t.now.words.now) low high self.index) }
     {
-        let i = self.index;
-        let taken = self.expect(text, words, kind::INTEGER);
-        match taken {
-            Taken::No(refusal) => Taken::No(refusal),
-            Taken::Got(n, next) => {
-                if n < low {
-                    return Taken::No(refuse(22, i));
-                }
-                if high < n {
-                    return Taken::No(refuse(22, i));
-                }
-                Taken::Got(n, next)
-            }
+        let (n, next) = self.expect(t, kind::INTEGER)?;
+        if n < low || high < n {
+            return Err(refuse(22, self.index));
         }
+        Ok((n, next))
     }
 }

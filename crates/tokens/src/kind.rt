@@ -1,4 +1,5 @@
-// The kinds of tokens, in the order of document 01, "Tokens and places"; past the last token the kind is 0.
+// The kinds of tokens, in the order of document 01, "Tokens and places"; past the last token the kind is 0. They are
+// numbers, since the lent words hold them (include/tergyosul.h).
 pub const WORD: u32 = 1;
 
 pub const STRING: u32 = 2;

@@ -20,6 +20,7 @@ pub const RECORD_SIZE: usize = 5;
 const PLACE_UNIT: u32 = 65536;
 
 // How many whole records the words hold.
+#[tactic(auto, unfolding(crate::specs::Record::capacity))]
 pub fn count(words: &[u32]) -> usize
     ensures { result ≡ capacity words.now }
 {
@@ -27,6 +28,7 @@ pub fn count(words: &[u32]) -> usize
 }
 
 // A line or a column as far as half a word holds it.
+#[tactic(auto, unfolding(crate::specs::Record::half_word))]
 fn half_word(n: u32) -> u32
     ensures { result ≡ half_word n }
 {
@@ -34,6 +36,7 @@ fn half_word(n: u32) -> u32
 }
 
 // Line and column in one word.
+#[tactic(auto, unfolding(crate::specs::Record::place_word))]
 fn place_word(line: u32, column: u32) -> u32
     ensures { result ≡ place_word line column }
 {
@@ -59,6 +62,7 @@ pub fn put(words: &mut [u32], i: usize, r: Record)
 }
 
 // Word k of the record at an index; 0 where there is no record.
+#[tactic(auto, unfolding(crate::specs::Record::word_at, crate::specs::Record::capacity))]
 fn word(words: &[u32], i: usize, k: usize) -> u32
     requires { k < record_size }
     ensures { result ≡ word_at words.now i k }
@@ -70,36 +74,42 @@ fn word(words: &[u32], i: usize, k: usize) -> u32
     words[at + k]
 }
 
+#[tactic(auto, unfolding(crate::specs::Record::kind_at))]
 pub fn kind(words: &[u32], i: usize) -> u32
     ensures { result ≡ kind_at words.now i }
 {
     word(words, i, 0)
 }
 
+#[tactic(auto, unfolding(crate::specs::Record::number_at))]
 pub fn number(words: &[u32], i: usize) -> u32
     ensures { result ≡ number_at words.now i }
 {
     word(words, i, 1)
 }
 
+#[tactic(auto, unfolding(crate::specs::Record::start_at))]
 pub fn start(words: &[u32], i: usize) -> u32
     ensures { result ≡ start_at words.now i }
 {
     word(words, i, 2)
 }
 
+#[tactic(auto, unfolding(crate::specs::Record::length_at))]
 pub fn length(words: &[u32], i: usize) -> u32
     ensures { result ≡ length_at words.now i }
 {
     word(words, i, 3)
 }
 
+#[tactic(auto, unfolding(crate::specs::Record::line_at))]
 pub fn line(words: &[u32], i: usize) -> u32
     ensures { result ≡ line_at words.now i }
 {
     word(words, i, 4) / PLACE_UNIT
 }
 
+#[tactic(auto, unfolding(crate::specs::Record::column_at))]
 pub fn column(words: &[u32], i: usize) -> u32
     ensures { result ≡ column_at words.now i }
 {
@@ -107,6 +117,7 @@ pub fn column(words: &[u32], i: usize) -> u32
 }
 
 // The part of the text that a token's record names: of a string, what stands between its quotes.
+#[tactic(auto, unfolding(crate::specs::Record::bytes_at))]
 pub fn bytes<'a, 'b>(text: &'a [u8], words: &'b [u32], i: usize) -> &'a [u8]
     ensures { result.now ≡ bytes_at text.now words.now i }
 {

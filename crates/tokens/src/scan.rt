@@ -1,39 +1,29 @@
-// Scans over the characters of a text. Each has one loop, and answers for any bytes and any place. A byte below 0x80 is a character
+// Scans over the characters of a text, each with one loop, and what they share. They answer for any bytes and any place. A byte below 0x80 is a character
 // by itself and is read in place; decoded reads the others. For speed a loop holds its place in parts.
 ghost use Rattle.std.specs.Prelude.{◌≡◌, false, ltb, get_or, ◌*◌, ◌+◌, ◌-◌, ◌≤◌};
 ghost use Rattle.text.specs.Choice.{pick};
-ghost use Rattle.text.specs.Block.{block, Row};
+ghost use Rattle.text.specs.Block.{Row};
 ghost use Rattle.text.specs.Utf8.{chars};
 ghost use Rattle.text.specs.Place.{counted};
 ghost use Rattle.text.specs.Ascii.{is_alpha, is_word_part};
 ghost use Rattle.tokens.specs.Scan.{passed, is_plain, trivia, quoted, digits};
 
-use text::ascii;
-use text::place::{Place, Step, count_up};
+use text::place::{Place, count_up, held};
+use text::{ascii, block};
 
-fn wide(b: u8) -> u32
-    ensures { result ≡ b }
-{
-    b as u32
-}
-
-// The byte at an offset; 0x80, which begins no character, past the end. No byte from there on is in a class of ascii.
+// The byte at an offset; 0x80, which begins no character, past the end. No byte from there on is in a class of ascii. text::utf8 has its
+// own, with 0 past the end: each is one call of the library, and one function with a parameter would be no shorter.
 fn octet(s: &[u8], at: usize) -> u32
     ensures { result ≡ get_or s.now at 0x80 }
 {
-    if at < s.len() { wide(s[at]) } else { 0x80 }
+    s.get(at).map_or(0x80, |b| u32::from(*b))
 }
 
 // So many more, up to the greatest number: a loop that counts the offset only has its column by one addition.
 fn count_on(n: u32, more: usize) -> u32
     ensures { result ≡ counted (n + more) }
 {
-    let left = (4294967295 - n) as usize;
-    if more < left {
-        n + more as u32
-    } else {
-        4294967295
-    }
+    n.saturating_add(held(more))
 }
 
 // Behind the letters, digits and _ that stand in a row. The loop counts the offset only.
@@ -52,7 +42,7 @@ pub fn word_end(s: &[u8], from: Place) -> Place
                 column: count_on(column, at - start),
             };
         }
-        at = at + 1;
+        at += 1;
     }
 }
 
@@ -67,51 +57,24 @@ pub fn letters_end(s: &[u8], from: Place) -> Place
         if !ascii::is_alpha(octet(s, at)) {
             return Place { at, line, column };
         }
-        at = at + 1;
+        at += 1;
         column = count_up(column);
     }
 }
 
 // Is this byte a character by itself, and not LF?
+#[tactic(auto, using(text::proofs::Tests::steps), unfolding(crate::specs::Scan::is_plain))]
 fn is_plain(b: u32) -> bool
     ensures { result ≡ is_plain b }
 {
-    if b == 0xA {
-        return false;
-    }
-    b < 0x80
-}
-
-// Are there eight plain bytes at an offset? As in text::utf8, all are tested at once.
-fn eight_plain(s: &[u8], at: usize) -> bool
-    ensures { result ≡ block is_plain s.now at }
-{
-    let len = s.len();
-    if len < 8 {
-        return false;
-    }
-    if len - 8 < at {
-        return false;
-    }
-    !(((s[at] == 0xA) | (0x80 <= s[at]))
-        | ((s[at + 1] == 0xA) | (0x80 <= s[at + 1]))
-        | ((s[at + 2] == 0xA) | (0x80 <= s[at + 2]))
-        | ((s[at + 3] == 0xA) | (0x80 <= s[at + 3]))
-        | ((s[at + 4] == 0xA) | (0x80 <= s[at + 4]))
-        | ((s[at + 5] == 0xA) | (0x80 <= s[at + 5]))
-        | ((s[at + 6] == 0xA) | (0x80 <= s[at + 6]))
-        | ((s[at + 7] == 0xA) | (0x80 <= s[at + 7])))
+    b != 0xA && b < 0x80
 }
 
 // Behind blocks of eight plain bytes that stand in a row from an offset on.
 fn plain_blocks(s: &[u8], from: usize) -> usize
     ensures { Row is_plain s.now from result }
 {
-    let mut at = from;
-    while eight_plain(s, at) {
-        at = at + 8;
-    }
-    at
+    block::row(s, from, |b| is_plain(u32::from(b)))
 }
 
 // In a comment, behind the plain bytes that stand in a row: the comment goes on from there. The loop counts the offset only.
@@ -130,7 +93,7 @@ fn plain_end(s: &[u8], from: Place) -> Place
                 column: count_on(column, at - start),
             };
         }
-        at = at + 1;
+        at += 1;
     }
 }
 
@@ -144,26 +107,19 @@ fn comment_end(s: &[u8], from: Place) -> Place
         if octet(s, q.at) == 0xA {
             return q;
         }
-        let step = q.decoded(s);
-        match step {
-            Step::Next { code: _, place } => {
-                p = place;
-            }
-            Step::Stop => {
-                return q;
-            }
+        match q.decoded(s) {
+            Some((_, next)) => p = next,
+            None => return q,
         }
     }
 }
 
 // Is this an ASCII character above #? None of these is white space or opens a comment, and most tokens begin with one.
+#[tactic(auto, using(text::proofs::Tests::steps))]
 fn is_token_start(b: u32) -> bool
     ensures { result ≡ pick (ltb b 0x24) false (ltb b 0x80) }
 {
-    if b < 0x24 {
-        return false;
-    }
-    b < 0x80
+    matches!(b, 0x24..=0x7F)
 }
 
 // Behind white space and comments.
@@ -179,10 +135,10 @@ pub fn skip_trivia(s: &[u8], from: Place) -> Place
             return Place { at, line, column };
         }
         if b == 0x20 {
-            at = at + 1;
+            at += 1;
             column = count_up(column);
         } else if b == 0x23 {
-            at = at + 1;
+            at += 1;
             column = count_up(column);
             let end = comment_end(s, Place { at, line, column });
             at = end.at;
@@ -190,31 +146,23 @@ pub fn skip_trivia(s: &[u8], from: Place) -> Place
             column = end.column;
         } else {
             match (Place { at, line, column }).bump(s) {
-                Step::Next { code, place } => {
+                Some((code, next)) => {
                     if !text::white::is_white(code) {
                         return Place { at, line, column };
                     }
-                    at = place.at;
-                    line = place.line;
-                    column = place.column;
+                    at = next.at;
+                    line = next.line;
+                    column = next.column;
                 }
-                Step::Stop => {
-                    return Place { at, line, column };
-                }
+                None => return Place { at, line, column },
             }
         }
     }
 }
 
-// How a string ends: at the offset of its closing quote, with the place behind that, or not at all, at an LF or the end.
-#[derive(Clone, Copy)]
-pub enum Quoted {
-    Closed { end: usize, next: Place },
-    Unterminated { end: usize },
-}
-
-// The end of the string whose first character stands at a place.
-pub fn string_end(s: &[u8], from: Place) -> Quoted
+// How the string ends whose first character stands at a place: at the offset of its closing quote, with the place behind that, or not at
+// all, at the offset of an LF or of the end.
+pub fn string_end(s: &[u8], from: Place) -> Result<(usize, Place), usize>
     ensures { result ≡ quoted from (chars s.now from.at) }
 {
     let mut at = from.at;
@@ -229,47 +177,35 @@ pub fn string_end(s: &[u8], from: Place) -> Quoted
                     line,
                     column: count_up(column),
                 };
-                break Quoted::Closed { end: at, next };
+                return Ok((at, next));
             }
             if b == 0xA {
-                break Quoted::Unterminated { end: at };
+                return Err(at);
             }
-            at = at + 1;
+            at += 1;
             column = count_up(column);
         } else {
             match (Place { at, line, column }).decoded(s) {
-                Step::Next { code: _, place } => {
-                    at = place.at;
-                    line = place.line;
-                    column = place.column;
+                Some((_, next)) => {
+                    at = next.at;
+                    line = next.line;
+                    column = next.column;
                 }
-                Step::Stop => {
-                    break Quoted::Unterminated { end: at };
-                }
+                None => return Err(at),
             }
         }
     }
-}
-
-// A run of digits: the number it writes and the place behind it, or more than 1,000,000,000.
-#[derive(Clone, Copy)]
-pub enum Run {
-    Number { value: u32, end: Place },
-    TooLarge,
 }
 
 // A digit's value; a caller has seen that it is one.
 fn digit_value(code: u32) -> u64
     ensures { result ≡ code - 48 }
 {
-    if code < 48 {
-        return 0;
-    }
-    (code - 48) as u64
+    u64::from(code.saturating_sub(48))
 }
 
-// The digits that stand in a row.
-pub fn digit_run(s: &[u8], from: Place) -> Run
+// The digits that stand in a row: the number that they write and the place behind them; none for more than 1,000,000,000.
+pub fn digit_run(s: &[u8], from: Place) -> Option<(u32, Place)>
     ensures { result ≡ digits 0 from (chars s.now from.at) }
 {
     let line = from.line;
@@ -279,17 +215,14 @@ pub fn digit_run(s: &[u8], from: Place) -> Run
     loop {
         let code = octet(s, at);
         if !ascii::is_digit(code) {
-            return Run::Number {
-                value,
-                end: Place { at, line, column },
-            };
+            return Some((value, Place { at, line, column }));
         }
-        let more = value as u64 * 10 + digit_value(code);
+        let more = u64::from(value) * 10 + digit_value(code);
         if 1000000000 < more {
-            return Run::TooLarge;
+            return None;
         }
         value = more as u32;
-        at = at + 1;
+        at += 1;
         column = count_up(column);
     }
 }

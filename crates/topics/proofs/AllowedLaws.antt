@@ -11,7 +11,7 @@ use Rattle.text.specs.Choice.{pick}
 use Rattle.text.proofs.Tests.{picked, pick_same}
 use Rattle.topics.specs.Topics.{has, different, most_topics, Allowed, too_many, fits}
 use Rattle.topics.specs.Topics.Allowed.{all_lent, few}
-use Rattle.topics.proofs.DifferentLaws.{Within, has_here, has-later, has-cases, has-append, has_left, has_right, has_either, told, never, different-within, same-different, swapped, new-first}
+use Rattle.topics.proofs.DifferentLaws.{Within, has_here, has-later, has-cases, has_append, has_left, has_right, has_either, told, never, different-within, same-different, swapped, new-first}
 
 -- lent or named earlier: for the step it is the same
 new : List (List ℕ) → List ℕ → Bool
@@ -24,7 +24,7 @@ join-tests false u v = refl
 too_many-of : (lent earlier : List (List ℕ)) (topic : List ℕ) → too_many lent earlier topic ≡ new (lent ++ earlier) topic
 unfolding too_many new
 too_many-of lent earlier topic =
-    rw (has-append topic lent earlier) (join-tests (has topic lent) (has topic earlier) (leb most_topics (different (lent ++ earlier))))
+    rw (has_append topic lent earlier) (join-tests (has topic lent) (has topic earlier) (leb most_topics (different (lent ++ earlier))))
 
 fits_all : List (List ℕ) → List (List ℕ) → Bool
 fits_all all [] = true
@@ -73,8 +73,8 @@ module _ (lent earlier lent' earlier' : List (List ℕ)) (a : Alike (lent ++ ear
   fits-alike named = fits-of lent earlier named ∙ fits_all-alike named a ∙ sym (fits-of lent' earlier' named)
 
 -- lent or named earlier is the same
-pub too_many-lent : (lent first earlier : List (List ℕ)) (topic : List ℕ) → too_many (lent ++ first) earlier topic ≡ too_many lent (first ++ earlier) topic
-too_many-lent lent first earlier topic =
+pub too_many_lent : (lent first earlier : List (List ℕ)) (topic : List ℕ) → too_many (lent ++ first) earlier topic ≡ too_many lent (first ++ earlier) topic
+too_many_lent lent first earlier topic =
     too_many-of (lent ++ first) earlier topic ∙ rw append_assoc (sym (too_many-of lent (first ++ earlier) topic))
 
 -- so are earlier ones in another order, and a repeat among them

@@ -49,19 +49,19 @@ pub has-cases : (x y : List ℕ) (l : List (List ℕ)) → has x (y ∷ l) ≡ t
 unfolding has
 has-cases x y l h = first_by (or_cases (same_bytes y x) h)
 
-pub has-append : (x : List ℕ) (l m : List (List ℕ)) → has x (l ++ m) ≡ pick (has x l) true (has x m)
+pub has_append : (x : List ℕ) (l m : List (List ℕ)) → has x (l ++ m) ≡ pick (has x l) true (has x m)
 unfolding has
-has-append x [] m = refl
-has-append x (y ∷ l) m = rw (has-append x l m) (or_assoc (same_bytes y x) (has x l) (has x m))
+has_append x [] m = refl
+has_append x (y ∷ l) m = rw (has_append x l m) (or_assoc (same_bytes y x) (has x l) (has x m))
 
 pub has_left : (x : List ℕ) (l m : List (List ℕ)) → has x l ≡ true → has x (l ++ m) ≡ true
-has_left x l m h = rw (has-append x l m, h)
+has_left x l m h = rw (has_append x l m, h)
 
 pub has_right : (x : List ℕ) (l m : List (List ℕ)) → has x m ≡ true → has x (l ++ m) ≡ true
-has_right x l m h = rw (has-append x l m) (or_right (has x l) h)
+has_right x l m h = rw (has_append x l m) (or_right (has x l) h)
 
 pub has_either : (x : List ℕ) (l m : List (List ℕ)) → has x (l ++ m) ≡ true → (has x l ≡ true) ⊎ (has x m ≡ true)
-has_either x l m h = or_cases (has x l) (rw (has-append x l m) at h)
+has_either x l m h = or_cases (has x l) (rw (has_append x l m) at h)
 
 -- a test holds, or it does not
 pub told : (t : Bool) → (t ≡ true) ⊎ (t ≡ false)

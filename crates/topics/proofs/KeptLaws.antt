@@ -15,7 +15,7 @@ use Rattle.topics.specs.Topics.{has, different, lent_topics, most_topics}
 use Rattle.topics.specs.Ranges.{no_ranges, with_range, topics_in}
 use Rattle.topics.specs.Kept.{kept}
 use Rattle.topics.specs.declared.ranges.Ranges.{Ranges}
-use Rattle.topics.proofs.DifferentLaws.{told, has-append, has_left, has_right, different-within, inserted, new-first, old_first}
+use Rattle.topics.proofs.DifferentLaws.{told, has_append, has_left, has_right, different-within, inserted, new-first, old_first}
 use Rattle.topics.proofs.LentLaws.{lent-end, lent-empty, lent-line}
 use Rattle.topics.proofs.RangeLaws.{Stand, none-stand, one-stands}
 
@@ -128,7 +128,7 @@ module _ (lent : List ℕ) {named : List (List ℕ)} {first : ℕ} {lines : Rang
         (λ w.
         rw (← kept_new lent lines named at end k some refl n refl w refl)
         (new-counts some
-        (rw (has-append p g.topics named, rw g.stand.are at w) n)
+        (rw (has_append p g.topics named, rw g.stand.are at w) n)
         (omega (arith, g.stand.counted))))
         (told (has p (topics_in lent lines))))
         (told (has p named)))

@@ -1,4 +1,5 @@
 -- Topics in ranges, one after the other.
+use Rattle.std.specs.Prelude.{Option, None, Some}
 use Prim.Native.Nat.{ℕ, zero, suc, ◌+◌, ◌<◌, ◌≤◌}
 use mathlib.Core.Path.{◌≡◌, ◌∙◌, refl, ap, sym}
 use mathlib.Core.List.{List, [], ◌∷◌, ◌++◌, map, append-nil, append_assoc}
@@ -18,9 +19,7 @@ use Rattle.topics.specs.Ranges.{no_range, no_ranges, with_range, with_name, with
 use Rattle.model.specs.declared.Name.{Name}
 use Rattle.topics.specs.declared.ranges.Range.{Range}
 use Rattle.topics.specs.declared.ranges.Ranges.{Ranges}
-use Rattle.topics.specs.declared.ranges.Topic.{Topic}
-use Rattle.topics.specs.declared.ranges.Topic.TheVariants.{Absent, Is}
-use Rattle.topics.proofs.DifferentLaws.{has_here, has_left, has_right, has-append, inserted, new-first, old_first}
+use Rattle.topics.proofs.DifferentLaws.{has_here, has_left, has_right, has_append, inserted, new-first, old_first}
 
 -- at most eight are in use
 pub most-used : (ranges : Ranges) {n : ℕ} → n ≡ in_use ranges → n ≤ most_topics
@@ -61,7 +60,7 @@ module _ (s : List ℕ) (ranges : Ranges) where
 
       pub passed : has topic (first_in s ranges i) ≡ false → r ≡ false → has topic (first_in s ranges (i + 1)) ≡ false
       unfolding has
-      passed o h = rw (first_on, has-append topic (first_in s ranges i) (p ∷ []), o, ← said, h)
+      passed o h = rw (first_on, has_append topic (first_in s ranges i) (p ∷ []), o, ← said, h)
 
     -- and how many different ones there are with it, besides others
     module _ (others : List (List ℕ)) {r : Bool} (said : r ≡ has p (first_in s ranges i ++ others)) {count : ℕ}
@@ -141,15 +140,15 @@ module _ (s : List ℕ) {ranges : Ranges} {topics : List (List ℕ)} (g : Stand 
   name-stands name = one-stands name.start (name.start + name.length)
 
   -- one topic more, if there is one
-  pub topic-stands : (x : Topic) → Stand s (with_topic ranges x) (topics ++ topic_by (name_in s) x)
+  pub topic-stands : (x : Option Name) → Stand s (with_topic ranges x) (topics ++ topic_by (name_in s) x)
   unfolding with_topic topic_by
-  topic-stands Absent = rw append-nil g
-  topic-stands (Is name) = name-stands name
+  topic-stands None = rw append-nil g
+  topic-stands (Some name) = name-stands name
 
-pub topic-few : (written : Name → List ℕ) (topics : List (List ℕ)) (x : Topic) → length (topics ++ topic_by written x) ≤ length topics + 1
+pub topic-few : (written : Name → List ℕ) (topics : List (List ℕ)) (x : Option Name) → length (topics ++ topic_by written x) ≤ length topics + 1
 unfolding topic_by
-topic-few written topics Absent = rw append-nil (omega arith)
-topic-few written topics (Is name) = rw length-append (omega arith)
+topic-few written topics None = rw append-nil (omega arith)
+topic-few written topics (Some name) = rw length-append (omega arith)
 
 -- names whose ranges words give: their topics stand behind those that stand already
 pub words-stand : (s : List ℕ) {ranges : Ranges} {topics : List (List ℕ)} → Stand s ranges topics → (names : List Name) →

@@ -1,13 +1,11 @@
 -- Topics as ranges of the bytes in which they stand.
-use Rattle.std.specs.Prelude.{ℕ, zero, suc, ◌+◌, List, [], ◌∷◌, ◌++◌, get_or, set, replicate, ltb}
+use Rattle.std.specs.Prelude.{ℕ, zero, suc, ◌+◌, List, [], ◌∷◌, ◌++◌, get_or, set, replicate, ltb, Option, None, Some}
 use Rattle.text.specs.Choice.{pick}
 use Rattle.text.specs.Part.{part_of}
 use Rattle.topics.specs.Topics.{most_topics, lent_topics}
 use Rattle.model.specs.declared.Name.{Name}
 use Rattle.topics.specs.declared.ranges.Range.{Range}
 use Rattle.topics.specs.declared.ranges.Ranges.{Ranges}
-use Rattle.topics.specs.declared.ranges.Topic.{Topic}
-use Rattle.topics.specs.declared.ranges.Topic.TheVariants.{Absent, Is}
 
 -- what a row holds that is not in use
 abbrev pub no_range : Range
@@ -28,9 +26,9 @@ unfoldable pub with_name : Ranges → Name → Ranges
 with_name ranges name = with_range ranges name.start (name.start + name.length)
 
 -- one topic more, if there is one
-unfoldable pub with_topic : Ranges → Topic → Ranges
-with_topic ranges Absent = ranges
-with_topic ranges (Is name) = with_name ranges name
+unfoldable pub with_topic : Ranges → Option Name → Ranges
+with_topic ranges None = ranges
+with_topic ranges (Some name) = with_name ranges name
 
 -- ranges given as words, a start and a length for each; those past eight, and a start alone, are not looked at
 unfoldable pub ranges_from : Ranges → List ℕ → Ranges
@@ -47,9 +45,9 @@ range_words [] = []
 range_words (n ∷ ns) = n.start ∷ n.length ∷ range_words ns
 
 -- a topic's bytes, if there is one; written gives those of a name
-unfoldable pub topic_by : (Name → List ℕ) → Topic → List (List ℕ)
-topic_by written Absent = []
-topic_by written (Is name) = written name ∷ []
+unfoldable pub topic_by : (Name → List ℕ) → Option Name → List (List ℕ)
+topic_by written None = []
+topic_by written (Some name) = written name ∷ []
 
 -- the bytes of a range of s, and of a name of it
 unfoldable pub range_in : List ℕ → Range → List ℕ

@@ -9,27 +9,21 @@ use text::part;
 // As many different topics as may stand, and no more have to be kept.
 pub const MAX_TOPICS: usize = 8;
 
-// The bytes from an offset up to another.
+// The bytes from an offset up to another. It is copied, which the library's Range is not.
 #[derive(Clone, Copy)]
 pub struct Range {
     pub start: usize,
     pub end: usize,
 }
 
-// The first count ranges are in use.
+// The first count ranges are in use. An array with a count beside it: the reader puts nothing on the heap.
 #[derive(Clone, Copy)]
 pub struct Ranges {
     pub rows: [Range; MAX_TOPICS],
     pub count: usize,
 }
 
-// The topic that a trigger names, if it names one: a range of the rule text.
-#[derive(Clone, Copy)]
-pub enum Topic {
-    Absent,
-    Is(Name),
-}
-
+#[tactic(auto, unfolding(crate::specs::Ranges::no_ranges))]
 pub fn no_ranges() -> Ranges
     ensures { result ≡ no_ranges }
 {
@@ -40,6 +34,7 @@ pub fn no_ranges() -> Ranges
 }
 
 // One range more. Full ones stay as they are.
+#[tactic(auto, unfolding(crate::specs::Ranges::with_range))]
 pub fn with_range(ranges: Ranges, start: usize, end: usize) -> Ranges
     ensures { result ≡ with_range ranges start end }
 {
@@ -54,6 +49,7 @@ pub fn with_range(ranges: Ranges, start: usize, end: usize) -> Ranges
 }
 
 // One name more of the rule text.
+#[tactic(auto, unfolding(crate::specs::Ranges::with_name))]
 pub fn with_name(ranges: Ranges, name: Name) -> Ranges
     ensures { result ≡ with_name ranges name }
 {
@@ -67,36 +63,38 @@ pub fn ranges_of(words: &[u32]) -> Ranges
     ensures { result ≡ ranges_of words.now }
 {
     let mut ranges = no_ranges();
-    let mut i: usize = 1;
-    while i < words.len() {
-        let name = Name {
-            start: words[i - 1],
-            length: words[i],
-        };
-        ranges = with_name(ranges, name);
-        i += 2;
+    let mut rest = words;
+    while let [start, length, others @ ..] = rest {
+        ranges = with_name(
+            ranges,
+            Name {
+                start: *start,
+                length: *length,
+            },
+        );
+        rest = others;
     }
     ranges
 }
 
-// The topics with one more, if there is one.
-pub fn with_topic(ranges: Ranges, topic: Topic) -> Ranges
+// The ranges with that of the topic that a trigger names, if it names one.
+#[tactic(auto, unfolding(crate::specs::Ranges::with_topic))]
+pub fn with_topic(ranges: Ranges, topic: Option<Name>) -> Ranges
     ensures { result ≡ with_topic ranges topic }
 {
     match topic {
-        Topic::Absent => ranges,
-        Topic::Is(name) => with_name(ranges, name),
+        None => ranges,
+        Some(name) => with_name(ranges, name),
     }
 }
 
 // How many ranges are in use.
+#[tactic(auto, unfolding(crate::specs::Ranges::in_use))]
 fn used(ranges: Ranges) -> usize
-    ensures { result ≡ in_use ranges }
+    ensures value { result ≡ in_use ranges }
+    ensures upper_bound { result ≤ most_topics }
 {
-    if ranges.count < MAX_TOPICS {
-        return ranges.count;
-    }
-    MAX_TOPICS
+    ranges.count.min(MAX_TOPICS)
 }
 
 // Does the topic stand in one of the first n ranges?
@@ -104,18 +102,17 @@ fn among_first(s: &[u8], ranges: Ranges, n: usize, topic: &[u8]) -> bool
     requires { n ≤ most_topics }
     ensures { result ≡ has topic.now (first_in s.now ranges n) }
 {
-    let mut i: usize = 0;
-    while i < n {
+    for i in 0..n {
         let range = ranges.rows[i];
         if part::same(part::part(s, range.start, range.end), topic) {
             return true;
         }
-        i += 1;
     }
     false
 }
 
 // Does the topic stand in one of the ranges?
+#[tactic(auto, unfolding(crate::specs::Ranges::topics_in))]
 pub fn holds(s: &[u8], ranges: Ranges, topic: &[u8]) -> bool
     ensures { result ≡ has topic.now (topics_in s.now ranges) }
 {
@@ -123,17 +120,16 @@ pub fn holds(s: &[u8], ranges: Ranges, topic: &[u8]) -> bool
 }
 
 // Does the topic stand in one of the first n ranges of s, or in one of those of t?
+#[tactic(auto, using(crate::proofs::DifferentLaws::has_append))]
 fn holds_first(s: &[u8], ranges: Ranges, n: usize, t: &[u8], others: Ranges, topic: &[u8]) -> bool
     requires { n ≤ most_topics }
     ensures { result ≡ has topic.now (first_in s.now ranges n ++ topics_in t.now others) }
 {
-    if among_first(s, ranges, n, topic) {
-        return true;
-    }
-    holds(t, others, topic)
+    among_first(s, ranges, n, topic) || holds(t, others, topic)
 }
 
 // Does the topic stand in one of the ranges of s, or in one of those of t?
+#[tactic(auto, unfolding(crate::specs::Ranges::topics_in))]
 pub fn holds_in_both(s: &[u8], ranges: Ranges, t: &[u8], others: Ranges, topic: &[u8]) -> bool
     ensures { result ≡ has topic.now (topics_in s.now ranges ++ topics_in t.now others) }
 {
@@ -148,14 +144,12 @@ fn different_beside(s: &[u8], ranges: Ranges, t: &[u8], others: Ranges, before: 
 {
     let n = used(ranges);
     let mut count = before;
-    let mut i: usize = 0;
-    while i < n {
+    for i in 0..n {
         let range = ranges.rows[i];
         let topic = part::part(s, range.start, range.end);
         if !holds_first(s, ranges, i, t, others, topic) {
             count += 1;
         }
-        i += 1;
     }
     count
 }

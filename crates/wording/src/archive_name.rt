@@ -1,20 +1,34 @@
 // Refusals 25 and 31 to 34 of a row of the archive, said with what its party sees of the sheet.
-use crate::{archive, lookup, out, say, sheets, split, title};
+use crate::archive::{Field, Row};
+use crate::marks::Numbers;
+use crate::sheets::{Name, Question};
+use crate::title::Unnamed;
+use crate::{lookup, marks, out, source, title};
 use sheet::kind;
 
+// What stands for the adapter of a row that names none.
+const NO_ADAPTER: u32 = 256;
+
 // What is wrong, in a sentence.
-fn head(rt: &HostRuntime, l: &[u8], sheet: &[u8], number: u32, detail: u32, party: u8) {
-    let adapter = archive::adapter(l);
+fn head(rt: &impl Print, row: Row<'_>, sheet: &[u8], number: u32, detail: u32, party: u8) {
+    let adapter = row.adapter();
     if number == 25 {
-        title::of_unlisted(rt, sheet, adapter, party);
+        title::of_unlisted(rt, sheet, adapter.unwrap_or(NO_ADAPTER), party);
         return;
     }
-    title::of_named(rt, sheet, number, archive::kind(l), adapter, detail, party);
+    let of = Unnamed {
+        number,
+        kind: row.kind(),
+        adapter,
+        detail,
+        party,
+    };
+    title::of_named(rt, sheet, of);
 }
 
 // A row has nearly the name; one with a comma cannot stand in a row of the archive.
-fn nearly(rt: &HostRuntime, near: &[u8]) {
-    if 0 < split::count(near, b',') {
+fn nearly(rt: &impl Print, near: &[u8]) {
+    if near.contains(&b',') {
         lookup::nearly(rt, b"");
         return;
     }
@@ -22,93 +36,88 @@ fn nearly(rt: &HostRuntime, near: &[u8]) {
 }
 
 // 31: another kind has the name, or a row of the kind has nearly that name.
-fn unknown(rt: &HostRuntime, sheet: &[u8], name: &[u8], kind: u32) {
-    let other = lookup::other_kind(sheet, name, kind);
-    if other == kind::INPUT {
-        out::bytes(
+fn unknown(rt: &impl Print, sheet: &[u8], name: &[u8], kind: u32) {
+    match lookup::other_kind(sheet, name, kind) {
+        Some(kind::INPUT) => out::text(
             rt,
-            b"the sheet has an input device of this name, of which no row speaks: mend the name",
-        );
-        return;
+            "the sheet has an input device of this name, of which no row speaks: mend the name",
+        ),
+        Some(other) => out::text(rt, lookup::of_other_kind(other)),
+        None => nearly(rt, Question::named(kind, Name::Nearly(name)).name_on(sheet)),
     }
-    if other != kind::NONE {
-        lookup::of_other_kind(rt, other);
-        return;
-    }
-    nearly(rt, sheets::name(sheet, lookup::asked(kind, 256, 2), name));
 }
 
 // 33: the numbers of the rows that have the name.
-fn several(rt: &HostRuntime, sheet: &[u8], name: &[u8], kind: u32, scope: u32) {
-    let mut marks = [0u8; 256];
+fn several(rt: &impl Print, sheet: &[u8], name: &[u8], kind: u32, scope: Option<u32>) {
+    let mut marks = [false; 256];
     let adapter = lookup::one_adapter(sheet, name, kind, scope);
-    sheets::mark_rows(
-        sheet,
-        lookup::asked(kind, adapter, 1),
-        name,
-        true,
-        &mut marks,
-    );
-    say::set(
+    lookup::mark_numbers(sheet, name, kind, adapter, &mut marks);
+    out::text(
         rt,
-        &marks,
-        adapter,
-        b"adapter %n0 has it under %M0: rename all but one on the sheet",
+        format_args!(
+            "adapter {adapter} has it under {}: rename all but one on the sheet",
+            Numbers(&marks)
+        ),
     );
 }
 
 // 32 and 34: the adapters whose rows have the name.
-fn elsewhere(rt: &HostRuntime, sheet: &[u8], name: &[u8], kind: u32) {
-    let table = b"_ adapters %M0 have it: write one of these in the third field
-1 adapter %M0 has it: write that in the third field, or nothing";
-    let mut marks = [0u8; 256];
-    sheets::mark_rows(sheet, lookup::asked(kind, 256, 1), name, false, &mut marks);
-    lookup::by_count(rt, &marks, 0, table);
-    lookup::to_list(
-        rt,
-        sheet,
-        &mut marks,
-        b"; for adapter %n0 the sheet needs the row adapter,%n0 first",
-    );
+fn elsewhere(rt: &impl Print, sheet: &[u8], name: &[u8], kind: u32) {
+    let mut marks = [false; 256];
+    Question::named(kind, Name::Is(name)).mark_adapters(sheet, &mut marks);
+    let numbers = Numbers(&marks);
+    if marks::count(&marks) == 1 {
+        out::text(
+            rt,
+            format_args!("adapter {numbers} has it: write that in the third field, or nothing"),
+        );
+    } else {
+        out::text(
+            rt,
+            format_args!("adapters {numbers} have it: write one of these in the third field"),
+        );
+    }
+    if let Some(k) = lookup::to_list(sheet, &mut marks) {
+        out::text(
+            rt,
+            format_args!("; for adapter {k} the sheet needs the row adapter,{k} first"),
+        );
+    }
 }
 
 // The way out.
-fn help(rt: &HostRuntime, l: &[u8], sheet: &[u8], number: u32, party: u8) {
-    let name = archive::field(l, archive::NAME);
-    let kind = archive::kind(l);
-    let adapter = archive::adapter(l);
+fn help(rt: &impl Print, row: Row<'_>, sheet: &[u8], number: u32, party: u8) {
+    let name = row.field(Field::Name);
+    let kind = row.kind();
+    let adapter = row.adapter();
     match number {
-        25 => lookup::listed(rt, sheet, party, adapter),
+        25 => lookup::listed(rt, sheet, party, adapter.unwrap_or(NO_ADAPTER)),
         31 => unknown(rt, sheet, name, kind),
         33 => several(rt, sheet, name, kind, adapter),
         _ => elsewhere(rt, sheet, name, kind),
     }
 }
 
-// The field that a refusal is about.
-fn field(number: u32) -> usize {
-    if number == 25 {
-        return archive::ADAPTER;
-    }
-    archive::NAME
-}
-
 // The diagnostic behind the row's number, up to the last line of the output.
 pub fn show(
-    rt: &HostRuntime,
-    l: &[u8],
+    rt: &impl Print,
+    row: Row<'_>,
     sheet: &[u8],
     number: u32,
-    row: u32,
+    n: u32,
     detail: u32,
     party: u8,
 ) {
-    let k = field(number);
-    head(rt, l, sheet, number, detail, party);
+    let field = if number == 25 {
+        Field::Adapter
+    } else {
+        Field::Name
+    };
+    head(rt, row, sheet, number, detail, party);
     out::line_end(rt);
-    archive::marked(rt, l, row, archive::start(l, k));
-    archive::stands(rt, l, k);
-    archive::before_help(rt, row);
-    help(rt, l, sheet, number, party);
+    row.marked_at(rt, n, field);
+    out::line_end(rt);
+    source::before_help(rt, n);
+    help(rt, row, sheet, number, party);
     out::line_end(rt);
 }

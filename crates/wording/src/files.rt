@@ -2,68 +2,70 @@
 // bytes, which are too many for the reader as well, so that it is refused and never cut.
 ghost use Rattle.std.specs.Prelude.{◌≤◌, length};
 
+use crate::characters::Shown;
 use crate::out;
 use std::env::FillError;
-use std::fs::File;
 use std::io::Read;
-use std::rt::Env;
-use std::{fs, str};
+use std::rt::{Env, Files};
+use std::{fmt, fs, str};
 
 // The most bytes of a file of topics: as many as the reader takes of a rule, and of a sheet.
 const MOST_TOPICS: usize = 16384;
 
-// How reading a file went: 0 well, 1 no file name, 2 it cannot be opened, 3 it cannot be read to its end, 4 it is a file of topics that is too long. Then
-// how many bytes were read.
-#[derive(Clone, Copy)]
-pub struct Loaded {
-    pub fault: u32,
-    pub size: usize,
+// Why a file was not read.
+#[derive(Clone, Copy, PartialEq, Eq)]
+enum Fault {
+    NoName,
+    NotOpened,
+    NotRead,
+    TooManyTopics,
 }
 
-fn failed(fault: u32) -> Loaded {
-    Loaded { fault, size: 0 }
+impl fmt::Display for Fault {
+    fn fmt<W: fmt::Write>(&self, f: &mut fmt::Formatter<W>) -> fmt::Result {
+        f.write_str(match self {
+            Fault::NoName => "a file name is empty or has more than 4,095 bytes",
+            Fault::NotOpened => "this file cannot be opened: it is missing, or may not be read",
+            Fault::NotRead => "this file cannot be read to its end: is it a folder?",
+            Fault::TooManyTopics => {
+                "this file of topics has more than 16,384 bytes: write each topic once"
+            }
+        })
+    }
 }
 
-// Puts the argument with an index, from the program's own name on, at the start of a buffer; its length, or 0 where it is missing or does not fit. One that
-// does not fit leaves its first bytes in the buffer.
-pub fn argument(rt: &HostRuntime, i: usize, buf: &mut [u8]) -> usize {
+// The argument with an index, from the program's own name on, which is put into a buffer; no bytes where it is missing or does not fit.
+pub fn argument<'a>(rt: &impl Env, i: usize, buf: &'a mut [u8]) -> &'a [u8] {
     match rt.arg(i, buf) {
-        Ok(n) => n,
-        Err(_) => 0,
+        Ok(n) => &buf[..n],
+        Err(_) => &buf[..0],
     }
 }
 
 // Is there an argument with an index, be it empty?
-fn is_argument(rt: &HostRuntime, i: usize) -> bool {
+fn is_argument(rt: &impl Env, i: usize) -> bool {
     let mut one = [0u8; 1];
     match rt.arg(i, &mut one) {
-        Ok(_) => true,
-        Err(FillError::TooLong) => true,
+        Ok(_) | Err(FillError::TooLong) => true,
         Err(FillError::NotPresent) => false,
     }
 }
 
 // How many arguments there are, the program's own name among them.
-pub fn argument_count(rt: &HostRuntime) -> usize {
-    for i in 0..usize::MAX {
-        if !is_argument(rt, i) {
-            return i;
-        }
-    }
-    usize::MAX
+pub fn argument_count(rt: &impl Env) -> usize {
+    (0..usize::MAX)
+        .find(|i| !is_argument(rt, *i))
+        .unwrap_or(usize::MAX)
 }
 
 // Is a file at its end? A read that fails, as that of a folder, says no.
-fn is_at_end(file: &mut File) -> bool {
+fn is_at_end(file: &mut impl Read) -> bool {
     let mut one = [0u8; 1];
-    match file.read(&mut one) {
-        Ok(n) => n == 0,
-        Err(_) => false,
-    }
+    matches!(file.read(&mut one), Ok(0))
 }
 
 // Reads some bytes; how many, 0 at the end of the file and where a read fails.
-fn read_some(file: &mut File, buf: &mut [u8]) -> usize
+fn read_some(file: &mut impl Read, buf: &mut [u8]) -> usize
     ensures { result ≤ length buf.new }
 {
     match file.read(buf) {
@@ -73,7 +75,7 @@ fn read_some(file: &mut File, buf: &mut [u8]) -> usize
 }
 
 // Reads until the buffer is full, the file ends or a read fails; how many bytes. Each turn that goes on has read at least one.
-fn read_full(file: &mut File, buf: &mut [u8]) -> usize {
+fn read_full(file: &mut impl Read, buf: &mut [u8]) -> usize {
     let len = buf.len();
     let mut size = 0;
     for _ in 0..len {
@@ -89,76 +91,77 @@ fn read_full(file: &mut File, buf: &mut [u8]) -> usize {
     size
 }
 
-// Reads an open file.
-fn fill(file: &mut File, buf: &mut [u8]) -> Loaded {
+// Reads an open file; how many bytes.
+fn fill(file: &mut impl Read, buf: &mut [u8]) -> Result<usize, Fault> {
     let size = read_full(file, buf);
     if size < buf.len() && !is_at_end(file) {
-        return failed(3);
+        return Err(Fault::NotRead);
     }
-    Loaded { fault: 0, size }
+    Ok(size)
 }
 
-// Reads the file with a name, which is closed then.
-fn read_named(rt: &HostRuntime, name: &str, buf: &mut [u8]) -> Loaded {
+// Reads the file with a name of 1 to 4,095 bytes, which is closed then. One with a name that is not UTF-8 cannot be opened.
+fn read(rt: &impl Files, name: &[u8], buf: &mut [u8]) -> Result<usize, Fault> {
+    if name.is_empty() {
+        return Err(Fault::NoName);
+    }
+    let Ok(name) = str::from_utf8(name) else {
+        return Err(Fault::NotOpened);
+    };
     match fs::open(rt, name) {
         Ok(mut file) => fill(&mut file, buf),
-        Err(_) => failed(2),
+        Err(_) => Err(Fault::NotOpened),
     }
-}
-
-// Reads the file with a name of 1 to 4,095 bytes. One with a name that is not UTF-8 cannot be opened.
-fn read(rt: &HostRuntime, name: &[u8], buf: &mut [u8]) -> Loaded {
-    if name.len() == 0 {
-        return failed(1);
-    }
-    match str::from_utf8(name) {
-        Ok(name) => read_named(rt, name, buf),
-        Err(_) => failed(2),
-    }
-}
-
-fn reason(rt: &HostRuntime, fault: u32) {
-    let table = b"_ this file cannot be read to its end: is it a folder?
-2 this file cannot be opened: it is missing, or may not be read
-4 this file of topics has more than 16,384 bytes: write each topic once";
-    out::bytes(rt, b": ");
-    out::entry(rt, table, fault);
-    out::line_end(rt);
-}
-
-// The reason why a file was not read, and the last line of the output.
-fn complain(rt: &HostRuntime, name: &[u8], fault: u32) {
-    if fault == 1 {
-        out::bytes(
-            rt,
-            b"a file name is empty or has more than 4,095 bytes\nrefused: no file was read\n",
-        );
-        return;
-    }
-    out::shown(rt, name);
-    reason(rt, fault);
-    out::bytes(rt, b"refused: the file ");
-    out::shown(rt, name);
-    out::bytes(rt, b" was not read\n");
-}
-
-// How reading a file went, said if it did not go well.
-fn said(rt: &HostRuntime, name: &[u8], loaded: Loaded) -> Loaded {
-    if loaded.fault != 0 {
-        complain(rt, name, loaded.fault);
-    }
-    loaded
-}
-
-pub fn load(rt: &HostRuntime, name: &[u8], buf: &mut [u8]) -> Loaded {
-    said(rt, name, read(rt, name, buf))
 }
 
 // Reads a file of topics, for which the reader has no bound: one that may have been cut is not taken.
-pub fn load_topics(rt: &HostRuntime, name: &[u8], buf: &mut [u8]) -> Loaded {
-    let loaded = read(rt, name, buf);
-    if MOST_TOPICS < loaded.size {
-        return said(rt, name, failed(4));
+fn read_topics(rt: &impl Files, name: &[u8], buf: &mut [u8]) -> Result<usize, Fault> {
+    let size = read(rt, name, buf)?;
+    if MOST_TOPICS < size {
+        return Err(Fault::TooManyTopics);
     }
-    said(rt, name, loaded)
+    Ok(size)
+}
+
+// The reason why a file was not read, and the last line of the output.
+fn complain(rt: &impl Print, name: &[u8], fault: Fault) {
+    if fault == Fault::NoName {
+        out::text(rt, format_args!("{fault}\nrefused: no file was read\n"));
+        return;
+    }
+    let name = Shown(name);
+    out::text(rt, format_args!("{name}: {fault}\n"));
+    out::text(rt, format_args!("refused: the file {name} was not read\n"));
+}
+
+// What was read of a file, if it went well; else the reason is said.
+fn said<'a>(
+    rt: &impl Print,
+    name: &[u8],
+    read: Result<usize, Fault>,
+    buf: &'a [u8],
+) -> Option<&'a [u8]> {
+    match read {
+        Ok(size) => Some(text::part::part(buf, 0, size)),
+        Err(fault) => {
+            complain(rt, name, fault);
+            None
+        }
+    }
+}
+
+// The bytes of the file with a name, which are read into a buffer; none where it was not read, which is said then.
+pub fn load<'a>(rt: &(impl Files + Print), name: &[u8], buf: &'a mut [u8]) -> Option<&'a [u8]> {
+    let read = read(rt, name, buf);
+    said(rt, name, read, buf)
+}
+
+// The same of a file of topics.
+pub fn load_topics<'a>(
+    rt: &(impl Files + Print),
+    name: &[u8],
+    buf: &'a mut [u8],
+) -> Option<&'a [u8]> {
+    let read = read_topics(rt, name, buf);
+    said(rt, name, read, buf)
 }

@@ -1,74 +1,133 @@
-// Inputs and their events in plain words. The words of a part stand in a row of the answer from word k on.
-use crate::{layout, out, parts};
+// Inputs and their events in plain words. A part is made of the words that it has in the row of an answer.
+use crate::layout;
+use crate::parts::{NameOnSheet, word};
+use sheet::kind;
+use std::fmt;
 
 // INPUT: adapter, number and instance.
-pub fn input(rt: &HostRuntime, sheet: &[u8], answer: &[u32], row: usize, k: usize) {
-    if 9 < k {
-        return;
-    }
-    let adapter = layout::get(answer, row, k);
-    let number = layout::get(answer, row, k + 1);
-    out::bytes(rt, b"input device ");
-    out::small(rt, number);
-    instance(rt, adapter, layout::get(answer, row, k + 2));
-    parts::name_on_sheet(rt, sheet, 4, adapter, number);
+#[derive(Clone, Copy)]
+pub struct Input<'a> {
+    adapter: u32,
+    number: u32,
+    instance: u32,
+    name: NameOnSheet<'a>,
 }
 
-fn instance(rt: &HostRuntime, adapter: u32, n: u32) {
-    out::bytes(rt, b", instance ");
-    out::small(rt, n);
-    out::bytes(rt, b", on adapter ");
-    out::small(rt, adapter);
+impl<'a> Input<'a> {
+    pub fn of(sheet: &'a [u8], words: &[u32]) -> Self {
+        let adapter = layout::word(words, 0);
+        let number = layout::word(words, 1);
+        Input {
+            adapter,
+            number,
+            instance: layout::word(words, 2),
+            name: NameOnSheet::of(sheet, kind::INPUT, adapter, number),
+        }
+    }
 }
 
-// SELECTOR: one instance, or an instance group.
-pub fn selector(rt: &HostRuntime, sheet: &[u8], answer: &[u32], row: usize, k: usize) {
-    if 8 < k {
-        return;
+impl fmt::Display for Input<'_> {
+    fn fmt<W: fmt::Write>(&self, f: &mut fmt::Formatter<W>) -> fmt::Result {
+        let number = self.number;
+        let instance = self.instance;
+        let adapter = self.adapter;
+        write!(
+            f,
+            "input device {number}, instance {instance}, on adapter {adapter}{}",
+            self.name
+        )
     }
-    if layout::get(answer, row, k) == 1 {
-        input(rt, sheet, answer, row, k + 1);
-        return;
-    }
-    out::bytes(rt, b"instance group ");
-    out::small(rt, layout::get(answer, row, k + 2));
-    input_type(rt, layout::get(answer, row, k + 3));
-    out::bytes(rt, b" on adapter ");
-    out::small(rt, layout::get(answer, row, k + 1));
 }
 
 // The type of an instance group, if one is given: its number, and its word if it has one.
-fn input_type(rt: &HostRuntime, n: u32) {
-    if n == 4294967295 {
-        return;
+#[derive(Clone, Copy)]
+pub struct InputType(Option<u32>);
+
+impl fmt::Display for InputType {
+    fn fmt<W: fmt::Write>(&self, f: &mut fmt::Formatter<W>) -> fmt::Result {
+        let Some(n) = self.0 else {
+            return Ok(());
+        };
+        match word(&["button", "absolute", "occupancy", "light"], n) {
+            "" => write!(f, " of type {n}"),
+            word => write!(f, " of type {n} ({word})"),
+        }
     }
-    out::bytes(rt, b" of type ");
-    out::small(rt, n);
-    if n == 0 {
-        return;
-    }
-    if 4 < n {
-        return;
-    }
-    out::bytes(rt, b" (");
-    out::word(rt, b"button absolute occupancy light", n);
-    out::byte(rt, b')');
 }
 
+// SELECTOR: one instance, or an instance group.
+#[derive(Clone, Copy)]
+pub enum Selector<'a> {
+    Instance(Input<'a>),
+    Group {
+        adapter: u32,
+        group: u32,
+        of: InputType,
+    },
+}
+
+impl<'a> Selector<'a> {
+    pub fn of(sheet: &'a [u8], words: &[u32]) -> Self {
+        if layout::word(words, 0) == 1 {
+            return Selector::Instance(Input::of(sheet, layout::behind(words, 1)));
+        }
+        let n = layout::word(words, 3);
+        Selector::Group {
+            adapter: layout::word(words, 1),
+            group: layout::word(words, 2),
+            of: InputType(if n == u32::MAX { None } else { Some(n) }),
+        }
+    }
+}
+
+impl fmt::Display for Selector<'_> {
+    fn fmt<W: fmt::Write>(&self, f: &mut fmt::Formatter<W>) -> fmt::Result {
+        match self {
+            Selector::Instance(input) => write!(f, "{input}"),
+            Selector::Group { adapter, group, of } => {
+                write!(f, "instance group {group}{of} on adapter {adapter}")
+            }
+        }
+    }
+}
+
+// The words for events, by their codes from 1 on; code 13 is a raw event with its data.
+const EVENTS: [&str; 12] = [
+    "press",
+    "release",
+    "short_press",
+    "double_press",
+    "long_press_start",
+    "long_press_repeat",
+    "long_press_stop",
+    "button_free",
+    "button_stuck",
+    "movement",
+    "no_movement",
+    "any_event",
+];
+
 // EVENT: a code, and the data of a raw event.
-pub fn event(rt: &HostRuntime, answer: &[u32], row: usize, k: usize) {
-    if 9 < k {
-        return;
+#[derive(Clone, Copy)]
+pub enum Event {
+    Raw(u32),
+    Word(&'static str),
+}
+
+impl Event {
+    pub fn of(words: &[u32]) -> Self {
+        match layout::word(words, 0) {
+            13 => Event::Raw(layout::word(words, 1)),
+            code => Event::Word(word(&EVENTS, code)),
+        }
     }
-    let code = layout::get(answer, row, k);
-    if code == 13 {
-        out::bytes(rt, b"event with data ");
-        out::small(rt, layout::get(answer, row, k + 1));
-        return;
+}
+
+impl fmt::Display for Event {
+    fn fmt<W: fmt::Write>(&self, f: &mut fmt::Formatter<W>) -> fmt::Result {
+        match self {
+            Event::Raw(data) => write!(f, "event with data {data}"),
+            Event::Word(word) => f.write_str(word),
+        }
     }
-    out::word(
-        rt,
-        b"press release short_press double_press long_press_start long_press_repeat long_press_stop button_free button_stuck movement no_movement any_event",
-        code,
-    );
 }

@@ -1,125 +1,102 @@
 // What is in a set, listed as it may be written in a rule.
+use crate::characters::{Backquoted, Quoted};
 use crate::{marks, out, split};
-
-// How the members are written: as numbers, as references to things of a kind, or as words of a list of candidates.
-// Of a reference: whether the member is its number, or else its adapter; and the adapter behind a number, 256 where none is needed.
-#[derive(Clone, Copy)]
-pub struct Written {
-    pub kind: u32,
-    pub numbers: bool,
-    pub adapter: u32,
-}
+use sheet::kind;
+use std::fmt;
 
 // The member behind all candidates, of which there are at most so many.
 pub const END: usize = 255;
 
-pub fn key(rt: &HostRuntime, k: usize) {
-    out::bytes(rt, b"adapter=");
-    out::number(rt, k as u64);
+// How a lamp, a group, a device or an input is referred to: by its number, with its adapter behind it if one is needed, or by its name and its adapter.
+#[derive(Clone, Copy)]
+pub enum Id<'a> {
+    Number { number: usize, adapter: Option<u32> },
+    Name { name: &'a [u8], adapter: usize },
 }
 
-// The adapter behind a number, if one is needed.
-fn behind_number(rt: &HostRuntime, adapter: u32) {
-    if adapter == 256 {
-        return;
-    }
-    out::bytes(rt, b", ");
-    key(rt, adapter as usize);
+// A reference as it is written; of an input only the arguments that tell it from others.
+#[derive(Clone, Copy)]
+pub struct Reference<'a> {
+    pub kind: u32,
+    pub id: Id<'a>,
 }
 
-// An argument of an input.
-fn input(rt: &HostRuntime, w: Written, k: usize) {
-    if w.numbers {
-        out::bytes(rt, b"dev=");
-        out::number(rt, k as u64);
-        behind_number(rt, w.adapter);
-        return;
-    }
-    key(rt, k);
-}
-
-// A reference to a lamp, a group or a device.
-fn reference(rt: &HostRuntime, name: &[u8], w: Written, k: usize) {
-    out::word(rt, b"lamp group device", w.kind);
-    out::byte(rt, b'(');
-    if w.numbers {
-        out::number(rt, k as u64);
-        behind_number(rt, w.adapter);
-        out::byte(rt, b')');
-        return;
-    }
-    out::quoted(rt, name);
-    out::bytes(rt, b", ");
-    key(rt, k);
-    out::byte(rt, b')');
-}
-
-// A word of the list of candidates, or what it stands for, as END does for the end of the text.
-fn candidate(rt: &HostRuntime, list: &[u8], k: usize) {
-    if 3 < k && k < END {
-        out::backquoted(rt, split::word(list, k));
-        return;
-    }
-    let table = b"_ the end of the text
-0 a text in quotes
-1 a number
-2 a time
-3 a duration";
-    out::entry(rt, table, text::place::held(k));
-}
-
-// A member: of a reference `name` is the name, of a word the list.
-fn item(rt: &HostRuntime, name: &[u8], w: Written, k: usize) {
-    let kind = w.kind;
+// The word for a kind in a rule; for an input, which has other arguments, none.
+pub fn word_of(kind: u32) -> &'static str {
     match kind {
-        0 => out::number(rt, k as u64),
-        4 => input(rt, w, k),
-        5 => candidate(rt, name, k),
-        _ => reference(rt, name, w, k),
+        kind::LAMP => "lamp",
+        kind::GROUP => "group",
+        kind::DEVICE => "device",
+        _ => "",
     }
 }
 
-// What stands before the first of so many that are left of all: a comma, but before the last the given word.
-pub fn separator(rt: &HostRuntime, left: usize, all: usize, last: &[u8]) {
-    if left == all {
-        return;
-    }
-    if left == 1 {
-        out::bytes(rt, last);
-        return;
-    }
-    out::bytes(rt, b", ");
-}
-
-// All members, with a word before the last.
-pub fn show(rt: &HostRuntime, name: &[u8], w: Written, marks: &[u8], last: &[u8]) {
-    let all = marks::count(marks);
-    let mut k = marks::first(marks);
-    let mut left = all;
-    while left > 0 {
-        separator(rt, left, all, last);
-        item(rt, name, w, k);
-        k = marks::after(marks, k);
-        left -= 1;
+impl fmt::Display for Id<'_> {
+    fn fmt<W: fmt::Write>(&self, f: &mut fmt::Formatter<W>) -> fmt::Result {
+        match *self {
+            Id::Number {
+                number,
+                adapter: None,
+            } => write!(f, "{number}"),
+            Id::Number {
+                number,
+                adapter: Some(adapter),
+            } => write!(f, "{number}, adapter={adapter}"),
+            Id::Name { name, adapter } => write!(f, "{}, adapter={adapter}", Quoted(name)),
+        }
     }
 }
 
-// The members as numbers.
-pub fn plain(rt: &HostRuntime, marks: &[u8]) {
-    let w = Written {
-        kind: 0,
-        numbers: true,
-        adapter: 256,
-    };
-    show(rt, b"", w, marks, b" and ");
+impl fmt::Display for Reference<'_> {
+    fn fmt<W: fmt::Write>(&self, f: &mut fmt::Formatter<W>) -> fmt::Result {
+        let id = self.id;
+        match id {
+            Id::Name { adapter, .. } if self.kind == kind::INPUT => write!(f, "adapter={adapter}"),
+            Id::Number { .. } if self.kind == kind::INPUT => write!(f, "dev={id}"),
+            _ => write!(f, "{}({id})", word_of(self.kind)),
+        }
+    }
+}
+
+// A word of a list of candidates, or what it stands for, as END does for the end of the text.
+#[derive(Clone, Copy)]
+struct Candidate<'a> {
+    list: &'a [u8],
+    k: usize,
+}
+
+impl fmt::Display for Candidate<'_> {
+    fn fmt<W: fmt::Write>(&self, f: &mut fmt::Formatter<W>) -> fmt::Result {
+        match self.k {
+            0 => f.write_str("a text in quotes"),
+            1 => f.write_str("a number"),
+            2 => f.write_str("a time"),
+            3 => f.write_str("a duration"),
+            k if k < END => write!(f, "{}", Backquoted(split::word(self.list, k))),
+            _ => f.write_str("the end of the text"),
+        }
+    }
+}
+
+// The members as numbers of things of a kind, with the adapter behind each if one is needed.
+pub fn numbers(rt: &impl Print, kind: u32, adapter: Option<u32>, marks: &[bool]) {
+    marks::each(marks, " or ", |before, number| {
+        let id = Id::Number { number, adapter };
+        out::text(rt, format_args!("{before}{}", Reference { kind, id }));
+    });
+}
+
+// The members as adapters of things of a kind that have a name.
+pub fn names(rt: &impl Print, kind: u32, name: &[u8], marks: &[bool]) {
+    marks::each(marks, " or ", |before, adapter| {
+        let id = Id::Name { name, adapter };
+        out::text(rt, format_args!("{before}{}", Reference { kind, id }));
+    });
 }
 
 // The members as words of a list of candidates.
-pub fn words(rt: &HostRuntime, list: &[u8], marks: &[u8]) {
-    let w = Written {
-        kind: 5,
-        numbers: false,
-        adapter: 256,
-    };
-    show(rt, list, w, marks, b" or ");
+pub fn words(rt: &impl Print, list: &[u8], marks: &[bool]) {
+    marks::each(marks, " or ", |before, k| {
+        out::text(rt, format_args!("{before}{}", Candidate { list, k }));
+    });
 }

@@ -3,15 +3,15 @@
 
 pub mod archive;
 pub mod archive_name;
-pub mod aside;
+pub mod characters;
 pub mod day;
-pub mod digits;
 pub mod fault;
 pub mod files;
 pub mod forms;
 pub mod inputs;
 pub mod items;
 pub mod layout;
+pub mod lexed;
 pub mod lookup;
 pub mod marks;
 pub mod near;

@@ -1,231 +1,222 @@
 // The options of the commands that take a name sheet. They stand before the files.
-use crate::{digits, files};
+use crate::files;
+use sheet::{Habit, line};
+use std::fmt;
+use std::rt::Env;
 
-// What stands for a number where none from 0 to 255 is given.
-pub const NONE: u32 = 256;
+// What is wrong with the arguments of a call: with its command, with the files of a command, or with its options.
+#[derive(Clone, Copy, PartialEq, Eq)]
+pub enum BadArguments {
+    NoCommand,
+    CheckFiles,
+    TokensFiles,
+    SameFiles,
+    JoinFiles,
+    WriteFiles,
+    RowsFiles,
+    BackFiles,
+    ChainsFiles,
+    // There is no such option.
+    Unknown,
+    // An option has no number from 0 to 255 behind it.
+    NoNumber,
+    // An option is given twice.
+    Twice,
+    // The archive loader's habit and the shop profile are asked for together.
+    Both,
+    // One of these is asked for where rules are read by the default call alone.
+    NoHabit,
+    // What is about rules is asked for where none is read.
+    NoRule,
+}
 
-// What stands for the index of a word where no file of topics is given: that of the command.
-pub const NO_TOPICS: usize = 1;
+impl BadArguments {
+    fn of_files(self) -> &'static str {
+        match self {
+            BadArguments::CheckFiles => "check takes two files: a rule and a name sheet",
+            BadArguments::TokensFiles => "tokens takes one file: a rule",
+            BadArguments::SameFiles => {
+                "same takes two files, both of them rules, and no option; before the name of a file that begins with a dash write ./"
+            }
+            BadArguments::JoinFiles => "join takes three files: two rules and a name sheet",
+            BadArguments::WriteFiles => "write takes two files: a rule and a name sheet",
+            BadArguments::RowsFiles => "rows takes two files: one of rows and a name sheet",
+            BadArguments::BackFiles => "rows-back takes two files: a rule and a name sheet",
+            BadArguments::ChainsFiles => "nothing stands behind chains",
+            _ => "there is no such command",
+        }
+    }
+}
 
-// There is no such option.
-const UNKNOWN: u32 = 3;
+impl fmt::Display for BadArguments {
+    fn fmt<W: fmt::Write>(&self, f: &mut fmt::Formatter<W>) -> fmt::Result {
+        f.write_str(match self {
+            BadArguments::Unknown => {
+                "there is no such option; before the name of a file that begins with a dash write ./"
+            }
+            BadArguments::NoNumber => {
+                "behind --party, as behind --primary, stands a number from 0 to 255 without leading zeros"
+            }
+            BadArguments::Twice => "an option is given twice",
+            BadArguments::Both => "--archive and --shop do not go together",
+            BadArguments::NoHabit => {
+                "--archive and --shop do not go together with join, nor with rows-back, which read rules without them"
+            }
+            BadArguments::NoRule => {
+                "--archive, --shop and --topics do not go together with rows, which reads no rule"
+            }
+            _ => self.of_files(),
+        })
+    }
+}
 
-// An option has no number from 0 to 255 behind it.
-const NO_NUMBER: u32 = 4;
-
-// An option is given twice.
-const TWICE: u32 = 5;
-
-// The archive loader's habit and the shop profile are asked for together.
-const BOTH: u32 = 6;
-
-// One of these is asked for where rules are read by the default call alone.
-const NO_HABIT: u32 = 10;
-
-// What is about rules is asked for where none is read.
-const NO_RULE: u32 = 14;
-
-// What the options say, NONE for a number that is not given, and the index of the word that names the file of topics; the index of the word behind them; and
-// what is wrong with them, 0 for nothing.
+// What the options say: the habit that is asked for, the numbers that are given, and the index of the word that names the file of topics; and the index of the
+// word behind them.
 #[derive(Clone, Copy)]
 pub struct Options {
-    pub archive: bool,
-    pub shop: bool,
-    pub party: u32,
-    pub primary: u32,
-    pub topics: usize,
+    pub habit: Habit,
+    pub party: Option<u8>,
+    pub primary: Option<u8>,
+    pub topics: Option<usize>,
     pub at: usize,
-    pub wrong: u32,
 }
 
 // Does the word at an index begin with a dash? Of a long word its first byte is enough.
-pub fn is_option(rt: &HostRuntime, i: usize) -> bool {
+pub fn is_option(rt: &impl Env, i: usize) -> bool {
     let mut first = [0u8; 1];
-    files::argument(rt, i, &mut first);
+    let _ = rt.arg(i, &mut first);
     first[0] == b'-'
 }
 
-// Is the word this number, without leading zeros?
-fn writes(word: &[u8], n: u32) -> bool {
-    let mut buffer = [0u8; digits::MOST];
-    let first = digits::decimal(n as u64, &mut buffer);
-    text::part::same(word, &buffer[first..])
-}
-
-// The number from 0 to 255 that a word writes; NONE where it writes none.
-fn number(word: &[u8]) -> u32 {
-    let mut n: u32 = 0;
-    while n < NONE {
-        if writes(word, n) {
-            return n;
-        }
-        n += 1;
-    }
-    NONE
-}
-
-// The number that the word at an index writes. One of more than four bytes writes none.
-fn number_at(rt: &HostRuntime, i: usize) -> u32 {
-    let mut word = [0u8; 4];
-    let n = files::argument(rt, i, &mut word);
-    number(text::part::part(&word, 0, n))
+// The number from 0 to 255 that the word at an index writes, without leading zeros. One of more than four bytes writes none.
+fn number_at(rt: &impl Env, i: usize) -> Result<u8, BadArguments> {
+    let mut buffer = [0u8; 4];
+    let n = line::decimal(files::argument(rt, i, &mut buffer)).ok_or(BadArguments::NoNumber)?;
+    u8::try_from(n).map_err(|_| BadArguments::NoNumber)
 }
 
 // The index so many words further; the count of the words where there are not so many.
 pub fn further(at: usize, words: usize, count: usize) -> usize {
-    if count <= at {
-        return count;
-    }
-    if count - at < words {
-        return count;
-    }
-    at + words
+    at.saturating_add(words).min(count)
 }
 
-fn refused(o: Options, wrong: u32) -> Options {
-    let mut other = o;
-    other.wrong = wrong;
-    other
-}
+impl Options {
+    // None of them, in a call whose words behind the command begin with them.
+    fn none() -> Self {
+        Options {
+            habit: Habit::Rule,
+            party: None,
+            primary: None,
+            topics: None,
+            at: 2,
+        }
+    }
 
-fn with_archive(o: Options, count: usize) -> Options {
-    if o.archive {
-        return refused(o, TWICE);
+    // With a habit, if none is asked for yet.
+    fn with_habit(self, habit: Habit, count: usize) -> Result<Self, BadArguments> {
+        match (self.habit, habit) {
+            (Habit::Rule, _) => Ok(Options {
+                habit,
+                at: further(self.at, 1, count),
+                ..self
+            }),
+            (Habit::Archive, Habit::Archive) | (Habit::Shop, Habit::Shop) => {
+                Err(BadArguments::Twice)
+            }
+            _ => Err(BadArguments::Both),
+        }
     }
-    if o.shop {
-        return refused(o, BOTH);
-    }
-    let mut other = o;
-    other.archive = true;
-    other.at = further(o.at, 1, count);
-    other
-}
 
-fn with_shop(o: Options, count: usize) -> Options {
-    if o.shop {
-        return refused(o, TWICE);
+    // The number behind an option, which was not given before.
+    fn number(self, rt: &impl Env, before: Option<u8>, count: usize) -> Result<u8, BadArguments> {
+        if before.is_some() {
+            return Err(BadArguments::Twice);
+        }
+        number_at(rt, further(self.at, 1, count))
     }
-    if o.archive {
-        return refused(o, BOTH);
-    }
-    let mut other = o;
-    other.shop = true;
-    other.at = further(o.at, 1, count);
-    other
-}
 
-// With the number behind `--party` or `--primary`, of which `before` was given before.
-fn with_number(rt: &HostRuntime, o: Options, is_party: bool, before: u32, count: usize) -> Options {
-    if before != NONE {
-        return refused(o, TWICE);
+    fn with_party(self, rt: &impl Env, count: usize) -> Result<Self, BadArguments> {
+        let n = self.number(rt, self.party, count)?;
+        Ok(Options {
+            party: Some(n),
+            at: further(self.at, 2, count),
+            ..self
+        })
     }
-    let n = number_at(rt, further(o.at, 1, count));
-    if n == NONE {
-        return refused(o, NO_NUMBER);
-    }
-    let mut other = o;
-    if is_party {
-        other.party = n;
-    } else {
-        other.primary = n;
-    }
-    other.at = further(o.at, 2, count);
-    other
-}
 
-// With the file behind `--topics`.
-fn with_topics(o: Options, count: usize) -> Options {
-    if o.topics != NO_TOPICS {
-        return refused(o, TWICE);
+    fn with_primary(self, rt: &impl Env, count: usize) -> Result<Self, BadArguments> {
+        let n = self.number(rt, self.primary, count)?;
+        Ok(Options {
+            primary: Some(n),
+            at: further(self.at, 2, count),
+            ..self
+        })
     }
-    let mut other = o;
-    other.topics = further(o.at, 1, count);
-    other.at = further(o.at, 2, count);
-    other
-}
 
-// With the option that is this word.
-fn with_option(rt: &HostRuntime, o: Options, word: &[u8], count: usize) -> Options {
-    if text::part::same(word, b"--archive") {
-        return with_archive(o, count);
+    // With the file behind `--topics`.
+    fn with_topics(self, count: usize) -> Result<Self, BadArguments> {
+        if self.topics.is_some() {
+            return Err(BadArguments::Twice);
+        }
+        Ok(Options {
+            topics: Some(further(self.at, 1, count)),
+            at: further(self.at, 2, count),
+            ..self
+        })
     }
-    if text::part::same(word, b"--shop") {
-        return with_shop(o, count);
-    }
-    if text::part::same(word, b"--party") {
-        return with_number(rt, o, true, o.party, count);
-    }
-    if text::part::same(word, b"--primary") {
-        return with_number(rt, o, false, o.primary, count);
-    }
-    if text::part::same(word, b"--topics") {
-        return with_topics(o, count);
-    }
-    refused(o, UNKNOWN)
-}
 
-// With the option that comes next, if there is one and nothing is wrong yet.
-fn with_next(rt: &HostRuntime, o: Options, count: usize) -> Options {
-    if o.wrong != 0 {
-        return o;
+    // With the option that comes next, if there is one.
+    fn with_next(self, rt: &impl Env, count: usize) -> Result<Self, BadArguments> {
+        if !is_option(rt, self.at) {
+            return Ok(self);
+        }
+        let mut buffer = [0u8; 16];
+        match files::argument(rt, self.at, &mut buffer) {
+            b"--archive" => self.with_habit(Habit::Archive, count),
+            b"--shop" => self.with_habit(Habit::Shop, count),
+            b"--party" => self.with_party(rt, count),
+            b"--primary" => self.with_primary(rt, count),
+            b"--topics" => self.with_topics(count),
+            _ => Err(BadArguments::Unknown),
+        }
     }
-    if !is_option(rt, o.at) {
-        return o;
-    }
-    let mut word = [0u8; 16];
-    let n = files::argument(rt, o.at, &mut word);
-    with_option(rt, o, text::part::part(&word, 0, n), count)
-}
 
-// The options of a call with so many words, its own name and the command among them. Four of them go together; a fifth is one too many.
-pub fn read(rt: &HostRuntime, count: usize) -> Options {
-    let mut o = Options {
-        archive: false,
-        shop: false,
-        party: NONE,
-        primary: NONE,
-        topics: NO_TOPICS,
-        at: 2,
-        wrong: 0,
-    };
-    let mut left: u32 = 5;
-    while left > 0 {
-        o = with_next(rt, o, count);
-        left -= 1;
+    // The options of a call with so many words, its own name and the command among them. Four of them go together; a fifth is one too many.
+    fn read(rt: &impl Env, count: usize) -> Result<Self, BadArguments> {
+        let mut o = Options::none();
+        for _ in 0..5 {
+            o = o.with_next(rt, count)?;
+        }
+        Ok(o)
     }
-    o
-}
 
-// The same for a command that takes so many files, which stand behind the options, and nothing else; `wrong` is what is wrong otherwise.
-pub fn before_files(rt: &HostRuntime, count: usize, files: usize, wrong: u32) -> Options {
-    let o = read(rt, count);
-    if o.wrong != 0 {
-        return o;
+    // The same for a command that takes so many files, which stand behind the options, and nothing else; `wrong` is what is wrong otherwise.
+    pub fn before_files(
+        rt: &impl Env,
+        count: usize,
+        files: usize,
+        wrong: BadArguments,
+    ) -> Result<Self, BadArguments> {
+        let o = Options::read(rt, count)?;
+        if o.at < count && count - o.at == files {
+            return Ok(o);
+        }
+        Err(wrong)
     }
-    if o.at < count && count - o.at == files {
-        return o;
-    }
-    refused(o, wrong)
-}
 
-// The options of a command that reads rules by the default call.
-pub fn without_habit(o: Options) -> Options {
-    if o.wrong != 0 {
-        return o;
+    // The options of a command that reads rules by the default call.
+    pub fn without_habit(self) -> Result<Self, BadArguments> {
+        match self.habit {
+            Habit::Rule => Ok(self),
+            Habit::Archive | Habit::Shop => Err(BadArguments::NoHabit),
+        }
     }
-    if o.archive || o.shop {
-        return refused(o, NO_HABIT);
-    }
-    o
-}
 
-// The options of a command that reads no rule.
-pub fn without_rule(o: Options) -> Options {
-    if o.wrong != 0 {
-        return o;
+    // The options of a command that reads no rule.
+    pub fn without_rule(self) -> Result<Self, BadArguments> {
+        match (self.habit, self.topics) {
+            (Habit::Rule, None) => Ok(self),
+            _ => Err(BadArguments::NoRule),
+        }
     }
-    if o.archive || o.shop || o.topics != NO_TOPICS {
-        return refused(o, NO_RULE);
-    }
-    o
 }

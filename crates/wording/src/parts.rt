@@ -1,140 +1,224 @@
-// The parts that triggers and conditions share, in plain words. The words of a part stand in a row of the answer from word k on.
-use crate::sheets::Question;
-use crate::{layout, out, sheets};
+// The parts that triggers and conditions share, in plain words. A part is made of the words that it has in the row of an answer.
+use crate::characters::{Quoted, Shown};
+use crate::layout;
+use crate::sheets::{Name, Question};
+use sheet::kind;
+use std::fmt;
 
-// The word of a kind: 1 lamp, 2 group, 3 device, 4 input device.
-pub fn kind_word(rt: &HostRuntime, kind: u32) {
-    if kind == 4 {
-        out::bytes(rt, b"input device");
-        return;
+// The word for a code, which counts from 1, of a list of words; none for another code.
+pub fn word(list: &[&'static str], code: u32) -> &'static str {
+    let k = code.checked_sub(1);
+    k.and_then(|k| list.get(k as usize).copied()).unwrap_or("")
+}
+
+// The word for a kind.
+pub fn kind_word(kind: u32) -> &'static str {
+    match kind {
+        kind::LAMP => "lamp",
+        kind::GROUP => "group",
+        kind::DEVICE => "device",
+        kind::INPUT => "input device",
+        _ => "",
     }
-    out::word(rt, b"lamp group device", kind);
+}
+
+// The word for several of a kind.
+pub fn kinds_word(kind: u32) -> &'static str {
+    match kind {
+        kind::LAMP => "lamps",
+        kind::GROUP => "groups",
+        kind::DEVICE => "devices",
+        kind::INPUT => "input devices",
+        _ => "",
+    }
 }
 
 // The name that the sheet has for what is referred to, between parentheses, if it has one.
-pub fn name_on_sheet(rt: &HostRuntime, sheet: &[u8], kind: u32, adapter: u32, number: u32) {
-    let q = Question {
-        kind,
-        adapter,
-        number,
-        name: 0,
-    };
-    let name = sheets::name(sheet, q, b"");
-    if name.len() == 0 {
-        return;
+#[derive(Clone, Copy)]
+pub struct NameOnSheet<'a>(&'a [u8]);
+
+impl<'a> NameOnSheet<'a> {
+    pub fn of(sheet: &'a [u8], kind: u32, adapter: u32, number: u32) -> Self {
+        let q = Question {
+            kind,
+            adapter: Some(adapter),
+            number: Some(number),
+            name: Name::Any,
+        };
+        NameOnSheet(q.name_on(sheet))
     }
-    out::bytes(rt, b" (");
-    out::quoted(rt, name);
-    out::byte(rt, b')');
+}
+
+impl fmt::Display for NameOnSheet<'_> {
+    fn fmt<W: fmt::Write>(&self, f: &mut fmt::Formatter<W>) -> fmt::Result {
+        if self.0.is_empty() {
+            return Ok(());
+        }
+        write!(f, " ({})", Quoted(self.0))
+    }
 }
 
 // REF, of a kind: adapter and number.
-pub fn reference(rt: &HostRuntime, sheet: &[u8], answer: &[u32], row: usize, k: usize, kind: u32) {
-    if 11 < k {
-        return;
-    }
-    let adapter = layout::get(answer, row, k);
-    let number = layout::get(answer, row, k + 1);
-    kind_word(rt, kind);
-    out::byte(rt, b' ');
-    out::small(rt, number);
-    out::bytes(rt, b" on adapter ");
-    out::small(rt, adapter);
-    name_on_sheet(rt, sheet, kind, adapter, number);
+#[derive(Clone, Copy)]
+pub struct Reference<'a> {
+    kind: u32,
+    adapter: u32,
+    number: u32,
+    name: NameOnSheet<'a>,
 }
 
-// NAME: a range of the text's bytes.
-pub fn name(rt: &HostRuntime, text: &[u8], answer: &[u32], row: usize, k: usize) {
-    if 11 < k {
-        return;
+impl<'a> Reference<'a> {
+    pub fn of(sheet: &'a [u8], kind: u32, words: &[u32]) -> Self {
+        let adapter = layout::word(words, 0);
+        let number = layout::word(words, 1);
+        Reference {
+            kind,
+            adapter,
+            number,
+            name: NameOnSheet::of(sheet, kind, adapter, number),
+        }
     }
-    let start = layout::get(answer, row, k) as usize;
-    let length = layout::get(answer, row, k + 1) as usize;
-    out::byte(rt, b'"');
-    out::shown(rt, text::part::part(text, start, start + length));
-    out::byte(rt, b'"');
+}
+
+impl fmt::Display for Reference<'_> {
+    fn fmt<W: fmt::Write>(&self, f: &mut fmt::Formatter<W>) -> fmt::Result {
+        let kind = kind_word(self.kind);
+        let number = self.number;
+        let adapter = self.adapter;
+        write!(f, "{kind} {number} on adapter {adapter}{}", self.name)
+    }
+}
+
+// NAME: a range of the text's bytes, between quotes.
+#[derive(Clone, Copy)]
+pub struct Named<'a>(&'a [u8]);
+
+impl<'a> Named<'a> {
+    pub fn of(text: &'a [u8], words: &[u32]) -> Self {
+        let start = layout::word(words, 0) as usize;
+        let length = layout::word(words, 1) as usize;
+        Named(text::part::part(text, start, start + length))
+    }
+}
+
+impl fmt::Display for Named<'_> {
+    fn fmt<W: fmt::Write>(&self, f: &mut fmt::Formatter<W>) -> fmt::Result {
+        write!(f, "\"{}\"", Shown(self.0))
+    }
 }
 
 // TARGET: a lamp, a group, or all lamps of an adapter.
-pub fn target(rt: &HostRuntime, sheet: &[u8], answer: &[u32], row: usize, k: usize) {
-    if 11 < k {
-        return;
+#[derive(Clone, Copy)]
+pub enum Target<'a> {
+    One(Reference<'a>),
+    AllLamps(u32),
+}
+
+impl<'a> Target<'a> {
+    pub fn of(sheet: &'a [u8], words: &[u32]) -> Self {
+        match layout::word(words, 0) {
+            3 => Target::AllLamps(layout::word(words, 1)),
+            kind => Target::One(Reference::of(sheet, kind, layout::behind(words, 1))),
+        }
     }
-    let kind = layout::get(answer, row, k);
-    if kind == 3 {
-        out::bytes(rt, b"all lamps of adapter ");
-        out::small(rt, layout::get(answer, row, k + 1));
-        return;
+}
+
+impl fmt::Display for Target<'_> {
+    fn fmt<W: fmt::Write>(&self, f: &mut fmt::Formatter<W>) -> fmt::Result {
+        match self {
+            Target::One(reference) => write!(f, "{reference}"),
+            Target::AllLamps(adapter) => write!(f, "all lamps of adapter {adapter}"),
+        }
     }
-    reference(rt, sheet, answer, row, k + 1, kind);
 }
 
 // A time of day, in minutes since midnight.
-pub fn clock(rt: &HostRuntime, minutes: u32) {
-    out::two_digits(rt, minutes / 60);
-    out::byte(rt, b':');
-    out::two_digits(rt, minutes % 60);
-}
+#[derive(Clone, Copy)]
+pub struct Clock(pub u32);
 
-// A part of a duration with its unit, and the space before it unless it is the first; nothing if it is 0.
-fn unit(rt: &HostRuntime, first: bool, n: u32, name: &[u8]) {
-    if n == 0 {
-        return;
+impl fmt::Display for Clock {
+    fn fmt<W: fmt::Write>(&self, f: &mut fmt::Formatter<W>) -> fmt::Result {
+        let hour = self.0 / 60;
+        let minute = self.0 % 60;
+        write!(f, "{hour:02}:{minute:02}")
     }
-    if first {
-        out::small(rt, n);
-        out::bytes(rt, name);
-        return;
-    }
-    out::byte(rt, b' ');
-    out::small(rt, n);
-    out::bytes(rt, name);
 }
 
 // A duration in milliseconds, exactly: hours, minutes, seconds and milliseconds, those that are not 0.
-pub fn duration(rt: &HostRuntime, ms: u32) {
-    if ms == 0 {
-        out::bytes(rt, b"0ms");
-        return;
+#[derive(Clone, Copy)]
+pub struct Duration(pub u32);
+
+impl fmt::Display for Duration {
+    fn fmt<W: fmt::Write>(&self, f: &mut fmt::Formatter<W>) -> fmt::Result {
+        let ms = self.0;
+        if ms == 0 {
+            return f.write_str("0ms");
+        }
+        let parts = [
+            (ms / 3600000, "h"),
+            (ms / 60000 % 60, "m"),
+            (ms / 1000 % 60, "s"),
+            (ms % 1000, "ms"),
+        ];
+        let mut space = "";
+        for (n, unit) in parts {
+            if n != 0 {
+                write!(f, "{space}{n}{unit}")?;
+                space = " ";
+            }
+        }
+        Ok(())
     }
-    unit(rt, true, ms / 3600000, b"h");
-    unit(rt, ms < 3600000, ms / 60000 % 60, b"m");
-    unit(rt, ms < 60000, ms / 1000 % 60, b"s");
-    unit(rt, ms < 1000, ms % 1000, b"ms");
 }
 
-// An offset from a solar event, which is of 32 bits in two's complement; nothing for none.
-fn offset(rt: &HostRuntime, offset: u32) {
-    if offset == 0 {
-        return;
-    }
-    out::bytes(rt, b", ");
-    if offset < 2147483648 {
-        duration(rt, offset);
-        out::bytes(rt, b" later");
-        return;
-    }
-    duration(rt, 4294967295 - offset + 1);
-    out::bytes(rt, b" earlier");
+// SUN and OFFSET: a solar event with its offset, which is of 32 bits in two's complement.
+#[derive(Clone, Copy)]
+pub struct Solar {
+    event: &'static str,
+    offset: u32,
 }
 
-// SUN and OFFSET: a solar event with its offset.
-pub fn solar(rt: &HostRuntime, answer: &[u32], row: usize, k: usize) {
-    if 10 < k {
-        return;
+impl Solar {
+    pub fn of(words: &[u32]) -> Self {
+        Solar {
+            event: word(&["sunrise", "sunset"], layout::word(words, 0)),
+            offset: layout::word(words, 1),
+        }
     }
-    out::word(rt, b"sunrise sunset", layout::get(answer, row, k));
-    offset(rt, layout::get(answer, row, k + 1));
+}
+
+impl fmt::Display for Solar {
+    fn fmt<W: fmt::Write>(&self, f: &mut fmt::Formatter<W>) -> fmt::Result {
+        let event = self.event;
+        match self.offset {
+            0 => f.write_str(event),
+            ms @ 1..=0x7FFFFFFF => write!(f, "{event}, {} later", Duration(ms)),
+            ms => write!(f, "{event}, {} earlier", Duration(ms.wrapping_neg())),
+        }
+    }
 }
 
 // BOUND: a time of day, or a solar event with an offset.
-pub fn bound(rt: &HostRuntime, answer: &[u32], row: usize, k: usize) {
-    if 10 < k {
-        return;
+#[derive(Clone, Copy)]
+pub enum Bound {
+    Clock(Clock),
+    Solar(Solar),
+}
+
+impl Bound {
+    pub fn of(words: &[u32]) -> Self {
+        match layout::word(words, 0) {
+            1 => Bound::Clock(Clock(layout::word(words, 1))),
+            _ => Bound::Solar(Solar::of(layout::behind(words, 1))),
+        }
     }
-    if layout::get(answer, row, k) == 1 {
-        clock(rt, layout::get(answer, row, k + 1));
-        return;
+}
+
+impl fmt::Display for Bound {
+    fn fmt<W: fmt::Write>(&self, f: &mut fmt::Formatter<W>) -> fmt::Result {
+        match self {
+            Bound::Clock(clock) => write!(f, "{clock}"),
+            Bound::Solar(solar) => write!(f, "{solar}"),
+        }
     }
-    solar(rt, answer, row, k + 1);
 }

@@ -1,99 +1,73 @@
 // The trigger, the condition or the reference that a refusal's place belongs to, found among the tokens.
+use crate::lexed::Lexed;
+use sheet::kind;
+use tokens::kind as token_kind;
 
-// Does a trigger or a condition begin behind this token? 1 for a trigger, 2 for a condition, 0 for neither.
-pub fn section(text: &[u8], words: &[u32], i: usize) -> u32 {
-    if tokens::record::kind(words, i) != 1 {
-        return 0;
-    }
-    let word = tokens::record::bytes(text, words, i);
-    if text::part::same(word, b"when") {
-        return 1;
-    }
-    if text::part::same(word, b"if") || text::part::same(word, b"and") {
-        return 2;
-    }
-    0
+#[derive(Clone, Copy, PartialEq, Eq)]
+pub enum Section {
+    Trigger,
+    Condition,
 }
 
-// Does a part begin behind this token: a trigger or a condition, or else what stands in parentheses?
-fn opens(text: &[u8], words: &[u32], i: usize, sections: bool) -> bool {
-    if sections {
-        return section(text, words, i) != 0;
+// What begins behind a token: a trigger or a condition, if one does.
+pub fn section_behind(l: Lexed<'_>, i: usize) -> Option<Section> {
+    if l.kind(i) != token_kind::WORD {
+        return None;
     }
-    tokens::record::kind(words, i) == 7
+    match l.bytes(i) {
+        b"when" => Some(Section::Trigger),
+        b"if" | b"and" => Some(Section::Condition),
+        _ => None,
+    }
 }
 
-// The index of the last token before another behind which such a part begins; 0 where there is none.
-pub fn open_before(text: &[u8], words: &[u32], i: usize, sections: bool) -> usize {
-    let mut k = i;
-    while k > 0 {
-        k -= 1;
-        if opens(text, words, k, sections) {
-            return k;
-        }
-    }
-    0
+// The index of the last token before another behind which a trigger or a condition begins; 0 where there is none.
+pub fn section_before(l: Lexed<'_>, i: usize) -> usize {
+    (0..i)
+        .rev()
+        .find(|k| section_behind(l, *k).is_some())
+        .unwrap_or(0)
 }
 
-// The word that stands so many tokens before another; no bytes where there is none.
-fn word_before<'a, 'b>(text: &'a [u8], words: &'b [u32], i: usize, back: usize) -> &'a [u8] {
-    if i < back {
-        return &text[..0];
-    }
-    tokens::record::bytes(text, words, i - back)
+// The index of the last `(` before a token; 0 where there is none.
+fn open_before(l: Lexed<'_>, i: usize) -> usize {
+    (0..i)
+        .rev()
+        .find(|k| l.kind(*k) == token_kind::OPEN)
+        .unwrap_or(0)
 }
 
-// The kind of what the parentheses around a token refer to: 1 lamp, 2 group, 3 device, 4 input; 0 for none of them.
-pub fn kind(text: &[u8], words: &[u32], i: usize) -> u32 {
-    let open = open_before(text, words, i, false);
-    let word = word_before(text, words, open, 1);
-    if text::part::same(word, b"lamp") {
-        return 1;
+// The kind of what the parentheses around a token refer to, as a sheet counts it; none for anything else.
+pub fn kind(l: Lexed<'_>, i: usize) -> u32 {
+    let open = open_before(l, i);
+    match l.before(open, 1) {
+        b"lamp" => kind::LAMP,
+        b"group" => kind::GROUP,
+        b"input" => kind::INPUT,
+        b"device" if matches!(l.before(open, 2), b"input") => kind::INPUT,
+        b"device" => kind::DEVICE,
+        _ => kind::NONE,
     }
-    if text::part::same(word, b"group") {
-        return 2;
-    }
-    if text::part::same(word, b"input") {
-        return 4;
-    }
-    if text::part::same(word, b"device") {
-        if text::part::same(word_before(text, words, open, 2), b"input") {
-            return 4;
-        }
-        return 3;
-    }
-    0
 }
 
 // Is the token with an index the number of an adapter, behind `adapter` and `=`?
-fn is_adapter(text: &[u8], words: &[u32], i: usize) -> bool {
-    if tokens::record::kind(words, i) != 3 {
-        return false;
-    }
-    text::part::same(word_before(text, words, i, 2), b"adapter")
+fn is_adapter(l: Lexed<'_>, i: usize) -> bool {
+    l.kind(i) == token_kind::INTEGER && matches!(l.before(i, 2), b"adapter")
 }
 
-// The last adapter in the parentheses that open before a token; 256 where there is none.
-pub fn adapter(text: &[u8], words: &[u32], count: usize, i: usize) -> u32 {
-    let mut found: u32 = 256;
-    let mut k = open_before(text, words, i, false);
-    while k < count {
-        if tokens::record::kind(words, k) == 8 {
-            return found;
-        }
-        if is_adapter(text, words, k) {
-            found = tokens::record::number(words, k);
-        }
-        k += 1;
-    }
-    found
+// The last adapter in the parentheses that open before a token, if there is one.
+pub fn adapter(l: Lexed<'_>, i: usize) -> Option<u32> {
+    (open_before(l, i)..l.count)
+        .take_while(|k| l.kind(*k) != token_kind::CLOSE)
+        .filter(|k| is_adapter(l, *k))
+        .last()
+        .map(|k| l.number(k))
 }
 
 // Is the text at a token compared with a variable, and so no name?
-pub fn is_compared(words: &[u32], i: usize) -> bool {
-    if i == 0 {
-        return false;
+pub fn is_compared(l: Lexed<'_>, i: usize) -> bool {
+    match i.checked_sub(1) {
+        Some(before) => matches!(l.kind(before), token_kind::EQ..=token_kind::LT),
+        None => false,
     }
-    let before = tokens::record::kind(words, i - 1);
-    15 <= before && before <= 20
 }

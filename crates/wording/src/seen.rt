@@ -1,27 +1,32 @@
 // What a party sees of a name sheet. All that this program says of names and adapters is looked up in the lines that the party sees.
-use crate::{marks, split, trial};
+use crate::sheets::MOST_LINES;
+use crate::{sheets, split, trial};
 use sheet::adapters::Adapters;
 use sheet::line::Line;
+use sheet::rows::Said;
 use sheet::{Call, Settings, adapters, line, rows};
+
+// What a sheet says of a party's adapters.
+fn said(sheet: &[u8], party: u8) -> Said {
+    match rows::check(sheet, u32::from(party)) {
+        Ok(said) => said,
+        Err(bad) => bad.said,
+    }
+}
 
 // The party's adapters, on a well-formed sheet.
 fn own(sheet: &[u8], party: u8) -> Adapters {
-    let survey = rows::check(sheet, party as u32);
-    survey.said.own
+    said(sheet, party).own
 }
 
 // What a call goes by, on a well-formed sheet.
 pub fn settings(sheet: &[u8], call: Call) -> Settings {
-    let survey = rows::check(sheet, call.party as u32);
-    let said = survey.said;
-    let own = said.own;
-    let listed = said.listed;
-    let habit = call.habit;
+    let said = said(sheet, call.party);
     Settings {
-        primary: call.primary as u32,
-        habit,
-        own,
-        listed,
+        primary: u32::from(call.primary),
+        habit: call.habit,
+        own: said.own,
+        listed: said.listed,
     }
 }
 
@@ -33,76 +38,30 @@ pub fn is_own(sheet: &[u8], party: u8, adapter: u32) -> bool {
 // Is an adapter not the party's?
 pub fn is_shared(sheet: &[u8], party: u8) -> bool {
     let set = own(sheet, party);
-    let mut a: u32 = 0;
-    while a < 256 {
-        if !adapters::has(set, a) {
-            return true;
-        }
-        a += 1;
-    }
-    false
+    (0..256).any(|a| !adapters::has(set, a))
 }
 
-// The adapter that a row of the sheet speaks of; 256 where the line is no row.
-fn adapter_of(l: &[u8]) -> u32 {
-    let said = line::line_of(l);
-    match said {
-        Line::Adapter(a) => a,
-        Line::Party {
-            adapter: a,
-            party: _,
-        } => a,
-        Line::Row {
-            kind: _,
-            adapter: a,
-            number: _,
-        } => a,
-        _ => 256,
+// The adapter that a row of the sheet speaks of, if it is in a set.
+fn adapter_in(set: Adapters, l: &[u8]) -> Option<u32> {
+    match line::line_of(l) {
+        Some(Line::Adapter(adapter) | Line::Party { adapter, .. } | Line::Row { adapter, .. })
+            if adapters::has(set, adapter) => { Some(adapter) }
+        _ => None,
     }
-}
-
-// The same for an adapter in a set alone; 256 for others.
-fn adapter_in(set: Adapters, l: &[u8]) -> u32 {
-    let a = adapter_of(l);
-    if adapters::has(set, a) {
-        return a;
-    }
-    256
 }
 
 // Marks the party's adapters that the sheet speaks of, among 256.
-pub fn mark_own(sheet: &[u8], party: u8, marks: &mut [u8]) {
+pub fn mark_own(sheet: &[u8], party: u8, marks: &mut [bool]) {
     let set = own(sheet, party);
-    let mut at = 0;
-    let mut n: u32 = 0;
-    while n < rows::LAST_LINE {
-        let a = adapter_in(set, split::line_at(sheet, at));
-        marks::set(marks, a as usize, true);
-        at = split::next_line(sheet, at);
-        n += 1;
-    }
+    sheets::mark(sheet, marks, true, |l| adapter_in(set, l));
 }
 
 // Does the line list an adapter outside a set, or name something on one?
 fn is_others(set: Adapters, l: &[u8]) -> bool {
-    let said = line::line_of(l);
-    match said {
-        Line::Adapter(a) => !adapters::has(set, a),
-        Line::Row {
-            kind: _,
-            adapter: a,
-            number: _,
-        } => !adapters::has(set, a),
+    match line::line_of(l) {
+        Some(Line::Adapter(adapter) | Line::Row { adapter, .. }) => !adapters::has(set, adapter),
         _ => false,
     }
-}
-
-// The line that begins at an index, with its end; no bytes where it is about an adapter outside a set.
-fn line_in(set: Adapters, sheet: &[u8], at: usize) -> &[u8] {
-    if is_others(set, split::line_at(sheet, at)) {
-        return &sheet[..0];
-    }
-    text::part::part(sheet, at, split::next_line(sheet, at))
 }
 
 // Puts the lines of the sheet into a lent buffer, in their order, but adapters and names of others, and answers how many bytes they have. With these the
@@ -110,12 +69,10 @@ fn line_in(set: Adapters, sheet: &[u8], at: usize) -> &[u8] {
 pub fn put(sheet: &[u8], party: u8, into: &mut [u8]) -> usize {
     let set = own(sheet, party);
     let mut size = 0;
-    let mut at = 0;
-    let mut n: u32 = 0;
-    while n < rows::LAST_LINE {
-        size = trial::bytes(into, size, line_in(set, sheet, at));
-        at = split::next_line(sheet, at);
-        n += 1;
+    for l in sheet.split_inclusive(split::is_line_end).take(MOST_LINES) {
+        if !is_others(set, l.strip_suffix(b"\n").unwrap_or(l)) {
+            size = trial::bytes(into, size, l);
+        }
     }
     size
 }

@@ -1,174 +1,114 @@
 // What stands at the place of a refusal.
+use crate::characters::{Backquoted, Cut, Quoted};
 use crate::fault::Fault;
-use crate::{digits, out};
-use text::utf8::Decoded;
+use crate::lexed::Lexed;
+use crate::{characters, out};
+use std::fmt;
+use tokens::kind;
 
 // The word for a kind of token.
-pub fn kind(rt: &HostRuntime, k: u32) {
-    if 6 < k {
-        out::bytes(rt, b"sign");
-        return;
+fn kind_word(kind: u32) -> &'static str {
+    match kind {
+        0 => "",
+        kind::WORD => "word",
+        kind::STRING => "text",
+        kind::INTEGER => "number",
+        kind::TIME => "time",
+        kind::DURATION => "duration",
+        kind::DECIMAL => "decimal",
+        _ => "sign",
     }
-    out::word(rt, b"word text number time duration decimal", k);
 }
 
-// A token as it is written: a text between quotes, a word or a sign between backquotes, a number bare.
-pub fn written(rt: &HostRuntime, text: &[u8], words: &[u32], i: usize) {
-    let k = tokens::record::kind(words, i);
-    let w = tokens::record::bytes(text, words, i);
-    if k == 2 {
-        out::quoted(rt, w);
-        return;
-    }
-    if k == 1 {
-        out::backquoted(rt, w);
-        return;
-    }
-    if 6 < k {
-        out::backquoted(rt, w);
-        return;
-    }
-    out::cut(rt, w);
+// A token behind the word for its kind, as it is written: a text between quotes, a word or a sign between backquotes, a number bare.
+#[derive(Clone, Copy)]
+pub struct Token<'a> {
+    kind: u32,
+    bytes: &'a [u8],
 }
 
-fn token(rt: &HostRuntime, text: &[u8], words: &[u32], i: usize) {
-    out::bytes(rt, b"the ");
-    kind(rt, tokens::record::kind(words, i));
-    out::byte(rt, b' ');
-    written(rt, text, words, i);
-    out::bytes(rt, b" stands here");
+impl<'a> Token<'a> {
+    pub fn of(lexed: Lexed<'a>, i: usize) -> Self {
+        Token {
+            kind: lexed.kind(i),
+            bytes: lexed.bytes(i),
+        }
+    }
 }
 
-fn is_number_byte(b: u8) -> bool {
-    if b'0' <= b && b <= b'9' {
-        return true;
+impl fmt::Display for Token<'_> {
+    fn fmt<W: fmt::Write>(&self, f: &mut fmt::Formatter<W>) -> fmt::Result {
+        let word = kind_word(self.kind);
+        match self.kind {
+            kind::STRING => write!(f, "{word} {}", Quoted(self.bytes)),
+            0 | kind::INTEGER..=kind::DECIMAL => write!(f, "{word} {}", Cut(self.bytes)),
+            _ => write!(f, "{word} {}", Backquoted(self.bytes)),
+        }
     }
-    if b'A' <= b && b <= b'Z' {
-        return true;
-    }
-    if b'a' <= b && b <= b'z' {
-        return true;
-    }
-    b == b':'
-}
-
-fn byte_at(w: &[u8], i: usize) -> u8 {
-    if i < w.len() {
-        return w[i];
-    }
-    0
 }
 
 // Does a byte belong to what was meant as a number? A point does before a digit.
-fn is_in_number(w: &[u8], i: usize) -> bool {
-    if is_number_byte(byte_at(w, i)) {
-        return true;
-    }
-    if byte_at(w, i) != b'.' {
-        return false;
-    }
-    if w.len() <= i {
-        return false;
-    }
-    let next = byte_at(w, i + 1);
-    b'0' <= next && next <= b'9'
+fn is_in_number(b: u8, next: u8) -> bool {
+    b.is_ascii_alphanumeric() || b == b':' || b == b'.' && next.is_ascii_digit()
 }
 
-fn number_end(w: &[u8], start: usize) -> usize {
-    let mut i = start;
-    while i < w.len() {
-        if !is_in_number(w, i) {
-            return i;
+// What was meant as a number, from its front on.
+fn number(w: &[u8]) -> &[u8] {
+    let next = w.iter().skip(1).chain(&[0u8]);
+    let size = w
+        .iter()
+        .zip(next)
+        .take_while(|(b, next)| is_in_number(**b, **next))
+        .count();
+    text::part::part(w, 0, size)
+}
+
+// The character at the front, with its code if it is none of ASCII's that are shown: it may be one that cannot be seen.
+#[derive(Clone, Copy)]
+pub struct Character<'a>(pub &'a [u8]);
+
+impl fmt::Display for Character<'_> {
+    fn fmt<W: fmt::Write>(&self, f: &mut fmt::Formatter<W>) -> fmt::Result {
+        let (front, _) = characters::split(self.0, 1);
+        let written = Backquoted(front);
+        match characters::of(self.0).next().and_then(|c| c.code) {
+            None | Some(33..=126) => write!(f, "the character {written}"),
+            Some(code) => write!(f, "the character {written} (U+{code:04x})"),
         }
-        i += 1;
     }
-    i
 }
 
-fn number(rt: &HostRuntime, text: &[u8], start: usize) {
-    let w = text::part::part(text, start, number_end(text, start));
-    out::cut(rt, w);
-    out::bytes(rt, b" stands here");
-}
-
-// A number in hex, with so many digits at least.
-fn hex(rt: &HostRuntime, n: u32, width: usize) {
-    let mut buffer = [0u8; digits::MOST];
-    let first = digits::hex(n as u64, width, &mut buffer);
-    out::bytes(rt, &buffer[first..]);
-}
-
-fn wide(b: u8) -> u32 {
-    b as u32
-}
-
-fn bad_byte(rt: &HostRuntime, text: &[u8], i: usize) {
-    out::bytes(rt, b"the byte ");
-    hex(rt, wide(byte_at(text, i)), 2);
-    out::bytes(rt, b" (hex) begins no character");
-}
-
-// The code of the character at an offset, if it is none of ASCII's that are shown: it may be one that cannot be seen.
-fn code(rt: &HostRuntime, text: &[u8], i: usize) {
-    let d = text::utf8::decode(text, i);
-    match d {
-        Decoded::Char { code, next: _ } => {
-            if 32 < code && code < 127 {
-                return;
-            }
-            out::bytes(rt, b" (U+");
-            hex(rt, code, 4);
-            out::byte(rt, b')')
+// Before the text was cut into tokens: a byte, a character or a number, which stand at the front.
+fn uncut(rt: &impl Print, refusal: u32, w: &[u8]) {
+    match refusal {
+        4 => {
+            let byte = w.first().copied().unwrap_or(0);
+            out::text(
+                rt,
+                format_args!("the byte {byte:02x} (hex) begins no character"),
+            );
         }
-        Decoded::Bad => {}
-        Decoded::End => {}
+        10 => out::text(rt, format_args!("{} stands here", Character(w))),
+        11 => out::text(rt, "the quote opens here"),
+        19 => out::text(rt, "the token after the 1,024th begins here"),
+        _ => out::text(rt, format_args!("{} stands here", Cut(number(w)))),
     }
 }
 
-// The character at an offset, with its code where it may be needed.
-pub fn character(rt: &HostRuntime, text: &[u8], i: usize) {
-    let w = text::part::part(text, i, out::behind(text, i));
-    out::bytes(rt, b"the character ");
-    out::backquoted(rt, w);
-    code(rt, text, i);
+// The token with an index, or the end of the text.
+pub fn at(rt: &impl Print, lexed: Lexed<'_>, i: usize) {
+    if i < lexed.count {
+        out::text(rt, format_args!("the {} stands here", Token::of(lexed, i)));
+        return;
+    }
+    out::text(rt, "the text ends here");
 }
 
-// Before the text was cut into tokens: a byte, a character or a number.
-fn uncut(rt: &HostRuntime, text: &[u8], f: Fault) {
-    let i = f.at;
-    if f.number == 4 {
-        bad_byte(rt, text, i);
-        return;
-    }
-    if f.number == 11 {
-        out::bytes(rt, b"the quote opens here");
-        return;
-    }
-    if f.number == 10 {
-        character(rt, text, i);
-        out::bytes(rt, b" stands here");
-        return;
-    }
-    if f.number == 19 {
-        out::bytes(rt, b"the token after the 1,024th begins here");
-        return;
-    }
-    number(rt, text, i);
-}
-
-// The token with an index, or the end of a text that has so many.
-pub fn at(rt: &HostRuntime, text: &[u8], words: &[u32], i: usize, count: usize) {
-    if i < count {
-        token(rt, text, words, i);
-        return;
-    }
-    out::bytes(rt, b"the text ends here");
-}
-
-pub fn show(rt: &HostRuntime, text: &[u8], words: &[u32], f: Fault) {
+pub fn show(rt: &impl Print, f: Fault<'_>) {
     if f.number < 20 {
-        uncut(rt, text, f);
+        let text = f.lexed.text;
+        uncut(rt, f.number, text::part::part(text, f.at, text.len()));
         return;
     }
-    at(rt, text, words, f.token, f.count);
+    at(rt, f.lexed, f.token);
 }

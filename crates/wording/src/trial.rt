@@ -1,4 +1,5 @@
 // Texts on trial, put together in a lent buffer from an index on. Each function answers the index behind what it put; what finds no room is left out.
+// The buffer and the index are no struct: a text is put again and again behind the same front, whose end the caller keeps.
 
 pub fn byte(trial: &mut [u8], at: usize, b: u8) -> usize {
     if at < trial.len() {
@@ -9,11 +10,9 @@ pub fn byte(trial: &mut [u8], at: usize, b: u8) -> usize {
 }
 
 pub fn bytes(trial: &mut [u8], at: usize, w: &[u8]) -> usize {
-    let mut p = at;
-    let mut i = 0;
-    while i < w.len() {
-        p = byte(trial, p, w[i]);
-        i += 1;
+    let mut end = at;
+    for b in w {
+        end = byte(trial, end, *b);
     }
-    p
+    end
 }

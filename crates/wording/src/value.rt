@@ -1,112 +1,130 @@
 // Values in conditions, in plain words: numbers, and readings with perhaps a number added.
-use crate::{inputs, layout, out, parts};
+use crate::inputs::Input;
+use crate::layout;
+use crate::parts::{Named, Reference, word};
+use sheet::kind;
+use std::fmt;
 
-// The size of a number of 64 bits in two's complement, whose high word says that it is negative.
-fn size(low: u32, high: u32) -> u64 {
-    let all = high as u64 * 4294967296 + low as u64;
-    if high < 2147483648 {
-        return all;
-    }
-    if all == 0 {
-        return 0;
-    }
-    18446744073709551615 - (all - 1)
+// The readings, by their codes from 1 on; code 23 is a variable.
+const PROPERTIES: [&str; 22] = [
+    "level",
+    "cct",
+    "is_on",
+    "last_level",
+    "any_on",
+    "all_off",
+    "member_count",
+    "occupied",
+    "light",
+    "position",
+    "last_event_age",
+    "time.now",
+    "time.hour",
+    "time.minute",
+    "time.weekday",
+    "sun.rise",
+    "sun.set",
+    "sun.is_up",
+    "event.value",
+    "event.device",
+    "event.instance",
+    "event.option",
+];
+
+// What a reading is of: something of a kind, a variable, or what needs nothing else.
+#[derive(Clone, Copy, PartialEq, Eq)]
+pub enum Source {
+    Kind(u32),
+    Variable,
+    Nothing,
 }
 
-fn signed(rt: &HostRuntime, low: u32, high: u32) {
-    if high < 2147483648 {
-        out::number(rt, size(low, high));
-        return;
-    }
-    out::byte(rt, b'-');
-    out::number(rt, size(low, high));
-}
-
-// A number that is added: a sign in any case.
-fn added(rt: &HostRuntime, low: u32, high: u32) {
-    if high < 2147483648 {
-        out::bytes(rt, b" + ");
-        out::number(rt, size(low, high));
-        return;
-    }
-    out::bytes(rt, b" - ");
-    out::number(rt, size(low, high));
-}
-
-// What a reading is of: 1 a lamp, 2 a group, 4 an input, 5 a variable, 0 none of these.
-pub fn kind_of(code: u32) -> u32 {
-    if code <= 4 {
-        return 1;
-    }
-    if code <= 7 {
-        return 2;
-    }
-    if code <= 11 {
-        return 4;
-    }
-    if code == 23 {
-        return 5;
-    }
-    0
-}
-
-// What is read: a property of something, or what needs nothing else.
-fn property(rt: &HostRuntime, code: u32, kind: u32) {
-    let list =
-        b"level cct is_on last_level any_on all_off member_count occupied light position last_event_age time.now time.hour time.minute time.weekday sun.rise sun.set sun.is_up event.value event.device event.instance event.option";
-    if kind == 0 {
-        out::word(rt, list, code);
-        return;
-    }
-    out::bytes(rt, b"the ");
-    out::word(rt, list, code);
-    out::bytes(rt, b" of ");
-}
-
-// The lamp, group or input that is read, if there is one.
-fn owner(rt: &HostRuntime, sheet: &[u8], answer: &[u32], row: usize, k: usize, kind: u32) {
-    match kind {
-        0 => {}
-        4 => inputs::input(rt, sheet, answer, row, k),
-        _ => parts::reference(rt, sheet, answer, row, k, kind),
+impl Source {
+    pub fn of(code: u32) -> Self {
+        match code {
+            0..=4 => Source::Kind(kind::LAMP),
+            5..=7 => Source::Kind(kind::GROUP),
+            8..=11 => Source::Kind(kind::INPUT),
+            23 => Source::Variable,
+            _ => Source::Nothing,
+        }
     }
 }
 
-// A reading, whose code is word k of the row.
-fn reading(rt: &HostRuntime, text: &[u8], sheet: &[u8], answer: &[u32], row: usize, k: usize) {
-    if 11 < k {
-        return;
-    }
-    let code = layout::get(answer, row, k);
-    let kind = kind_of(code);
-    if kind == 5 {
-        out::bytes(rt, b"var ");
-        parts::name(rt, text, answer, row, k + 1);
-        return;
-    }
-    property(rt, code, kind);
-    owner(rt, sheet, answer, row, k + 1, kind);
+// A reading: a property of a lamp, a group or an input, or of nothing, or a variable.
+#[derive(Clone, Copy)]
+enum Reading<'a> {
+    OfInput(&'static str, Input<'a>),
+    Of(&'static str, Reference<'a>),
+    Variable(Named<'a>),
+    Alone(&'static str),
 }
 
-// VALUE, whose kind is word k of the row; or a text.
-pub fn value(rt: &HostRuntime, text: &[u8], sheet: &[u8], answer: &[u32], row: usize, k: usize) {
-    if 5 < k {
-        return;
+impl<'a> Reading<'a> {
+    // Of the words from the reading's code on.
+    fn of(text: &'a [u8], sheet: &'a [u8], words: &[u32]) -> Self {
+        let code = layout::word(words, 0);
+        let property = word(&PROPERTIES, code);
+        let rest = layout::behind(words, 1);
+        match Source::of(code) {
+            Source::Variable => Reading::Variable(Named::of(text, rest)),
+            Source::Kind(kind::INPUT) => Reading::OfInput(property, Input::of(sheet, rest)),
+            Source::Kind(kind) => Reading::Of(property, Reference::of(sheet, kind, rest)),
+            Source::Nothing => Reading::Alone(property),
+        }
     }
-    let kind = layout::get(answer, row, k);
-    let low = layout::get(answer, row, k + 5);
-    let high = layout::get(answer, row, k + 6);
-    if kind == 1 {
-        signed(rt, low, high);
-        return;
+}
+
+impl fmt::Display for Reading<'_> {
+    fn fmt<W: fmt::Write>(&self, f: &mut fmt::Formatter<W>) -> fmt::Result {
+        match self {
+            Reading::OfInput(property, input) => write!(f, "the {property} of {input}"),
+            Reading::Of(property, reference) => write!(f, "the {property} of {reference}"),
+            Reading::Variable(name) => write!(f, "var {name}"),
+            Reading::Alone(property) => f.write_str(property),
+        }
     }
-    if kind == 4 {
-        out::bytes(rt, b"text ");
-        parts::name(rt, text, answer, row, k + 1);
-        return;
+}
+
+// VALUE, or a text.
+#[derive(Clone, Copy)]
+enum Operand<'a> {
+    Number(i64),
+    Reading(Reading<'a>),
+    Sum(Reading<'a>, i64),
+    Text(Named<'a>),
+}
+
+#[derive(Clone, Copy)]
+pub struct Value<'a>(Operand<'a>);
+
+// A number of 64 bits in two's complement, by its low and its high word.
+fn signed(low: u32, high: u32) -> i64 {
+    (high as u64 * 0x100000000 + low as u64).cast_signed()
+}
+
+impl<'a> Value<'a> {
+    // Of the words from the value's kind on.
+    pub fn of(text: &'a [u8], sheet: &'a [u8], words: &[u32]) -> Self {
+        let rest = layout::behind(words, 1);
+        let number = signed(layout::word(words, 5), layout::word(words, 6));
+        Value(match layout::word(words, 0) {
+            1 => Operand::Number(number),
+            3 => Operand::Sum(Reading::of(text, sheet, rest), number),
+            4 => Operand::Text(Named::of(text, rest)),
+            _ => Operand::Reading(Reading::of(text, sheet, rest)),
+        })
     }
-    reading(rt, text, sheet, answer, row, k + 1);
-    if kind == 3 {
-        added(rt, low, high);
+}
+
+impl fmt::Display for Value<'_> {
+    fn fmt<W: fmt::Write>(&self, f: &mut fmt::Formatter<W>) -> fmt::Result {
+        match self.0 {
+            Operand::Number(n) => write!(f, "{n}"),
+            Operand::Reading(reading) => write!(f, "{reading}"),
+            Operand::Sum(reading, n) if n < 0 => write!(f, "{reading} - {}", n.unsigned_abs()),
+            Operand::Sum(reading, n) => write!(f, "{reading} + {n}"),
+            Operand::Text(name) => write!(f, "text {name}"),
+        }
     }
 }

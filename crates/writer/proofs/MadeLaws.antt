@@ -1,4 +1,5 @@
 -- The parts of which what is written is made: bytes that stand in the code, and what is written by another function, one law for each function.
+use Rattle.std.specs.Prelude.{Option}
 use Prim.Native.Nat.{ℕ}
 use mathlib.Core.Path.{◌≡◌, sym, ap, subst}
 use mathlib.Core.List.{List, [], ◌∷◌, ◌++◌, append_assoc, append-nil}
@@ -12,7 +13,6 @@ use Rattle.model.specs.declared.Comparison.{Comparison}
 use Rattle.model.specs.declared.Condition.{Condition}
 use Rattle.model.specs.declared.Crossing.{Crossing}
 use Rattle.model.specs.declared.Days.{Days}
-use Rattle.model.specs.declared.Delta.{Delta}
 use Rattle.model.specs.declared.Event.{Event}
 use Rattle.model.specs.declared.EventReading.{EventReading}
 use Rattle.model.specs.declared.GroupReading.{GroupReading}
@@ -184,7 +184,7 @@ pub var_reading-made : (text : List ℕ) (name : Name) → Made (further (readin
 unfolding chained further spelled spelled_sign reading_pieces split
 var_reading-made text name = made_of (reading_pieces 0 (name_in text) (Reading.Var name)) ((Piece.word (ascii "var") ∷ []) ∷ (name_pieces (name_in text) name) ∷ []) (simp (append_assoc, append-nil))
 
-pub reads_made : (primary : ℕ) (text : List ℕ) (reading : Reading) (delta : Delta) → Made (further (value_pieces primary (name_in text) (Value.Reads reading delta))) ((further (reading_pieces primary (name_in text) reading)) ∷ (further (delta_pieces delta)) ∷ [])
+pub reads_made : (primary : ℕ) (text : List ℕ) (reading : Reading) (delta : Option ℤ) → Made (further (value_pieces primary (name_in text) (Value.Reads reading delta))) ((further (reading_pieces primary (name_in text) reading)) ∷ (further (delta_pieces delta)) ∷ [])
 unfolding chained further spelled spelled_sign value_pieces
 reads_made primary text reading delta = made_of (value_pieces primary (name_in text) (Value.Reads reading delta)) ((reading_pieces primary (name_in text) reading) ∷ (delta_pieces delta) ∷ []) (simp (append_assoc, append-nil))
 

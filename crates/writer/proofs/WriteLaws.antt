@@ -8,13 +8,14 @@ use lib.ListN.{length}
 use borrow.Author.Tests.{lt-ltb, le-ltb, eq-eqb, ne_eqb}
 use mir.Syntax.{w8, w32}
 use mir.Val
+use Rattle.std.specs.Prelude.{Result, Ok, Err}
 use Rattle.sheet.specs.Adapters.{has}
 use Rattle.sheet.specs.Survey.{survey_of}
 use Rattle.sheet.specs.View.{View, seen, view_of}
 use Rattle.sheet.specs.declared.Habit.{Habit}
 use Rattle.sheet.specs.declared.Settings.{Settings}
-use Rattle.sheet.specs.declared.rows.Survey.{Survey}
-use Rattle.sheet.specs.declared.rows.Verdict.{Verdict}
+use Rattle.sheet.specs.declared.rows.BadLine.{BadLine}
+use Rattle.sheet.specs.declared.rows.Said.{Said}
 use Rattle.sheet.proofs.CallLaws.{sheet-bad, sheet-good, own_is, view-is}
 use Rattle.language.specs.Read.{rule_call}
 use Rattle.writing.specs.Pieces.{spaced}
@@ -78,16 +79,13 @@ module _ (view : View) (first second : List ℕ) (l : Lists) (b : List ℕ) wher
       all-possible h = rw (le-ltb (length b) least_bytes room, ← counted, few, ← impossible, eq-eqb n 0 h)
 
 -- the sheet and 53
-module _ (party primary : ℕ) (first second sheet : List ℕ) (l : Lists) (b : List ℕ) {survey : Survey} (checked : survey ≡ survey_of party sheet) where
-  abbrev settings : Settings
-  settings = record { primary = primary; habit = Habit.Rule; own = survey.said.own; listed = survey.said.listed }
-
-  pub bad_sheet : {n : ℕ} → survey.verdict ≡ Verdict.BadLine n → refused_at 3 n b ≡ write_of party primary first second sheet l b
+module _ (party primary : ℕ) (first second sheet : List ℕ) (l : Lists) (b : List ℕ) {survey : Result Said BadLine} (checked : survey ≡ survey_of party sheet) where
+  pub bad_sheet : {bad : BadLine} → survey ≡ Err bad → refused_at 3 bad.line b ≡ write_of party primary first second sheet l b
   unfolding write_of by_sheet
-  bad_sheet bad = rw (sheet-bad (rule_call party primary) sheet checked bad)
+  bad_sheet is = rw (sheet-bad (rule_call party primary) sheet checked is)
 
-  module _ (good : survey.verdict ≡ Verdict.WellFormed) (byte : mir.Val.Fits w8 primary) {own : Bool}
-      (has-own : own ≡ has survey.said.own primary) where
+  module _ {said : Said} (good : survey ≡ Ok said) (byte : mir.Val.Fits w8 primary) {own : Bool}
+      (has-own : own ≡ has said.own primary) where
     outcome-is : by_room (seen (rule_call party primary) sheet) first second l b own ≡ write_of party primary first second sheet l b
     unfolding write_of by_sheet
     outcome-is =
@@ -98,5 +96,5 @@ module _ (party primary : ℕ) (first second sheet : List ℕ) (l : Lists) (b : 
     unfolding by_room
     not_own_lem h = rw h at outcome-is
 
-    pub is_own : own ≡ true → by_room (view_of settings sheet) first second l b true ≡ write_of party primary first second sheet l b
+    pub is_own : own ≡ true → by_room (view_of (record { primary = primary; habit = Habit.Rule; own = said.own; listed = said.listed }) sheet) first second l b true ≡ write_of party primary first second sheet l b
     is_own h = rw (view-is (rule_call party primary) sheet checked good) (rw h at outcome-is)

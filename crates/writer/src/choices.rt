@@ -16,8 +16,8 @@ pub fn put_power(out: &mut [u8], at: usize, power: Power) -> usize
     ensures { Put out.old at (further (Piece.word (power_word power) ∷ [])) out.new result }
 {
     match power {
-        Power::On => return put(out, at, b" on"),
-        Power::Off => return put(out, at, b" off"),
+        Power::On => put(out, at, b" on"),
+        Power::Off => put(out, at, b" off"),
     }
 }
 
@@ -26,8 +26,8 @@ pub fn put_occupancy(out: &mut [u8], at: usize, state: Occupancy) -> usize
     ensures { Put out.old at (further (Piece.word (occupancy_word state) ∷ [])) out.new result }
 {
     match state {
-        Occupancy::Occupied => return put(out, at, b" occupied"),
-        Occupancy::Vacant => return put(out, at, b" vacant"),
+        Occupancy::Occupied => put(out, at, b" occupied"),
+        Occupancy::Vacant => put(out, at, b" vacant"),
     }
 }
 
@@ -36,8 +36,8 @@ pub fn put_crossing(out: &mut [u8], at: usize, way: Crossing) -> usize
     ensures { Put out.old at (further (Piece.word (crossing_word way) ∷ [])) out.new result }
 {
     match way {
-        Crossing::Above => return put(out, at, b" above"),
-        Crossing::Below => return put(out, at, b" below"),
+        Crossing::Above => put(out, at, b" above"),
+        Crossing::Below => put(out, at, b" below"),
     }
 }
 
@@ -46,8 +46,8 @@ pub fn put_aggregate(out: &mut [u8], at: usize, state: Aggregate) -> usize
     ensures { Put out.old at (further (Piece.word (aggregate_word state) ∷ [])) out.new result }
 {
     match state {
-        Aggregate::AnyOn => return put(out, at, b" any_on"),
-        Aggregate::AllOff => return put(out, at, b" all_off"),
+        Aggregate::AnyOn => put(out, at, b" any_on"),
+        Aggregate::AllOff => put(out, at, b" all_off"),
     }
 }
 
@@ -56,8 +56,8 @@ pub fn put_override(out: &mut [u8], at: usize, change: Override) -> usize
     ensures { Put out.old at (further (Piece.word (override_word change) ∷ [])) out.new result }
 {
     match change {
-        Override::Starts => return put(out, at, b" starts"),
-        Override::Clears => return put(out, at, b" clears"),
+        Override::Starts => put(out, at, b" starts"),
+        Override::Clears => put(out, at, b" clears"),
     }
 }
 
@@ -66,8 +66,8 @@ pub fn put_sun(out: &mut [u8], at: usize, sun: Sun) -> usize
     ensures { Put out.old at (further (Piece.word (sun_word sun) ∷ [])) out.new result }
 {
     match sun {
-        Sun::Up => return put(out, at, b" up"),
-        Sun::Down => return put(out, at, b" down"),
+        Sun::Up => put(out, at, b" up"),
+        Sun::Down => put(out, at, b" down"),
     }
 }
 
@@ -76,8 +76,8 @@ pub fn put_hcl(out: &mut [u8], at: usize, state: Hcl) -> usize
     ensures { Put out.old at (further (Piece.word (hcl_word state) ∷ [])) out.new result }
 {
     match state {
-        Hcl::Enabled => return put(out, at, b" enabled"),
-        Hcl::Overridden => return put(out, at, b" overridden"),
+        Hcl::Enabled => put(out, at, b" enabled"),
+        Hcl::Overridden => put(out, at, b" overridden"),
     }
 }
 
@@ -86,8 +86,8 @@ pub fn put_online(out: &mut [u8], at: usize, change: Online) -> usize
     ensures { Put out.old at (further (words (online_words change))) out.new result }
 {
     match change {
-        Online::GoesOffline => return put(out, at, b" goes offline"),
-        Online::ComesOnline => return put(out, at, b" comes online"),
+        Online::GoesOffline => put(out, at, b" goes offline"),
+        Online::ComesOnline => put(out, at, b" comes online"),
     }
 }
 
@@ -96,12 +96,12 @@ pub fn put_comparison(out: &mut [u8], at: usize, comparison: Comparison) -> usiz
     ensures { Put out.old at (further (Piece.sign (comparison_sign comparison) ∷ [])) out.new result }
 {
     match comparison {
-        Comparison::Eq => return put(out, at, b" =="),
-        Comparison::Ne => return put(out, at, b" !="),
-        Comparison::Ge => return put(out, at, b" >="),
-        Comparison::Le => return put(out, at, b" <="),
-        Comparison::Gt => return put(out, at, b" >"),
-        Comparison::Lt => return put(out, at, b" <"),
+        Comparison::Eq => put(out, at, b" =="),
+        Comparison::Ne => put(out, at, b" !="),
+        Comparison::Ge => put(out, at, b" >="),
+        Comparison::Le => put(out, at, b" <="),
+        Comparison::Gt => put(out, at, b" >"),
+        Comparison::Lt => put(out, at, b" <"),
     }
 }
 
@@ -110,8 +110,8 @@ pub fn put_property(out: &mut [u8], at: usize, property: LampProperty) -> usize
     ensures { Put out.old at (further (Piece.sign POINT ∷ Piece.word (property_word property) ∷ [])) out.new result }
 {
     match property {
-        LampProperty::Level => return put(out, at, b" . level"),
-        LampProperty::Cct => return put(out, at, b" . cct"),
+        LampProperty::Level => put(out, at, b" . level"),
+        LampProperty::Cct => put(out, at, b" . cct"),
     }
 }
 
@@ -120,10 +120,10 @@ pub fn put_lamp_reading(out: &mut [u8], at: usize, property: LampReading) -> usi
     ensures { Put out.old at (further (Piece.sign POINT ∷ Piece.word (lamp_reading_word property) ∷ [])) out.new result }
 {
     match property {
-        LampReading::Level => return put(out, at, b" . level"),
-        LampReading::Cct => return put(out, at, b" . cct"),
-        LampReading::IsOn => return put(out, at, b" . is_on"),
-        LampReading::LastLevel => return put(out, at, b" . last_level"),
+        LampReading::Level => put(out, at, b" . level"),
+        LampReading::Cct => put(out, at, b" . cct"),
+        LampReading::IsOn => put(out, at, b" . is_on"),
+        LampReading::LastLevel => put(out, at, b" . last_level"),
     }
 }
 
@@ -132,9 +132,9 @@ pub fn put_group_reading(out: &mut [u8], at: usize, property: GroupReading) -> u
     ensures { Put out.old at (further (Piece.sign POINT ∷ Piece.word (group_reading_word property) ∷ [])) out.new result }
 {
     match property {
-        GroupReading::AnyOn => return put(out, at, b" . any_on"),
-        GroupReading::AllOff => return put(out, at, b" . all_off"),
-        GroupReading::MemberCount => return put(out, at, b" . member_count"),
+        GroupReading::AnyOn => put(out, at, b" . any_on"),
+        GroupReading::AllOff => put(out, at, b" . all_off"),
+        GroupReading::MemberCount => put(out, at, b" . member_count"),
     }
 }
 
@@ -143,10 +143,10 @@ pub fn put_input_reading(out: &mut [u8], at: usize, property: InputReading) -> u
     ensures { Put out.old at (further (Piece.sign POINT ∷ Piece.word (input_reading_word property) ∷ [])) out.new result }
 {
     match property {
-        InputReading::Occupied => return put(out, at, b" . occupied"),
-        InputReading::Light => return put(out, at, b" . light"),
-        InputReading::Position => return put(out, at, b" . position"),
-        InputReading::LastEventAge => return put(out, at, b" . last_event_age"),
+        InputReading::Occupied => put(out, at, b" . occupied"),
+        InputReading::Light => put(out, at, b" . light"),
+        InputReading::Position => put(out, at, b" . position"),
+        InputReading::LastEventAge => put(out, at, b" . last_event_age"),
     }
 }
 
@@ -155,10 +155,10 @@ pub fn put_time_reading(out: &mut [u8], at: usize, property: TimeReading) -> usi
     ensures { Put out.old at (further (Piece.sign POINT ∷ Piece.word (time_reading_word property) ∷ [])) out.new result }
 {
     match property {
-        TimeReading::Now => return put(out, at, b" . now"),
-        TimeReading::Hour => return put(out, at, b" . hour"),
-        TimeReading::Minute => return put(out, at, b" . minute"),
-        TimeReading::Weekday => return put(out, at, b" . weekday"),
+        TimeReading::Now => put(out, at, b" . now"),
+        TimeReading::Hour => put(out, at, b" . hour"),
+        TimeReading::Minute => put(out, at, b" . minute"),
+        TimeReading::Weekday => put(out, at, b" . weekday"),
     }
 }
 
@@ -167,9 +167,9 @@ pub fn put_sun_reading(out: &mut [u8], at: usize, property: SunReading) -> usize
     ensures { Put out.old at (further (Piece.sign POINT ∷ Piece.word (sun_reading_word property) ∷ [])) out.new result }
 {
     match property {
-        SunReading::Rise => return put(out, at, b" . rise"),
-        SunReading::Set => return put(out, at, b" . set"),
-        SunReading::IsUp => return put(out, at, b" . is_up"),
+        SunReading::Rise => put(out, at, b" . rise"),
+        SunReading::Set => put(out, at, b" . set"),
+        SunReading::IsUp => put(out, at, b" . is_up"),
     }
 }
 
@@ -178,9 +178,9 @@ pub fn put_event_reading(out: &mut [u8], at: usize, property: EventReading) -> u
     ensures { Put out.old at (further (Piece.sign POINT ∷ Piece.word (event_reading_word property) ∷ [])) out.new result }
 {
     match property {
-        EventReading::Value => return put(out, at, b" . value"),
-        EventReading::Device => return put(out, at, b" . device"),
-        EventReading::Instance => return put(out, at, b" . instance"),
-        EventReading::Option => return put(out, at, b" . option"),
+        EventReading::Value => put(out, at, b" . value"),
+        EventReading::Device => put(out, at, b" . device"),
+        EventReading::Instance => put(out, at, b" . instance"),
+        EventReading::Option => put(out, at, b" . option"),
     }
 }

@@ -158,40 +158,26 @@ pub fn put_condition(out: &mut [u8], at: usize, primary: u32, text: &[u8], y: Co
     ensures { Put out.old at (further (condition_pieces primary (name_in text.now) y)) out.new result }
 {
     match y {
-        Condition::TimeInRange(from, to) => return time_in_range(out, at, from, to),
-        Condition::SunIs(state) => return sun_is(out, at, state),
-        Condition::LampIs(r, state) => return lamp_is(out, at, primary, r, state),
-        Condition::LampCompare(r, property, comparison, value) => return lamp_compare(
+        Condition::TimeInRange(from, to) => time_in_range(out, at, from, to),
+        Condition::SunIs(state) => sun_is(out, at, state),
+        Condition::LampIs(r, state) => lamp_is(out, at, primary, r, state),
+        Condition::LampCompare(r, property, comparison, value) => lamp_compare(
             out, at, primary, text, r, property, comparison, value,
         ),
-        Condition::GroupState(r, state) => return group_state(out, at, primary, r, state),
-        Condition::InputOccupancy(r, state) => return input_state(out, at, primary, r, state),
-        Condition::InputLight(r, way, value) => return light_compare(
+        Condition::GroupState(r, state) => group_state(out, at, primary, r, state),
+        Condition::InputOccupancy(r, state) => input_state(out, at, primary, r, state),
+        Condition::InputLight(r, way, value) => light_compare(
             out, at, primary, text, r, way, value,
         ),
-        Condition::HclState(to, state) => return hcl_state(out, at, primary, to, state),
-        Condition::DeviceOnline(r) => return device_is_online(out, at, primary, r),
-        Condition::RuleEnabled(name) => return put_named(
-            out,
-            at,
-            b" rule",
-            text,
-            name,
-            b" is enabled",
-        ),
-        Condition::LastFiredOlderThan(name, ms) => return last_fired(out, at, text, name, ms),
-        Condition::TimerRunning(name) => return put_named(
-            out,
-            at,
-            b" timer",
-            text,
-            name,
-            b" is running",
-        ),
-        Condition::ControllerActive => return put(out, at, b" controller is active"),
-        Condition::VarCompare(name, comparison, operand) => return var_compare(
+        Condition::HclState(to, state) => hcl_state(out, at, primary, to, state),
+        Condition::DeviceOnline(r) => device_is_online(out, at, primary, r),
+        Condition::RuleEnabled(name) => put_named(out, at, b" rule", text, name, b" is enabled"),
+        Condition::LastFiredOlderThan(name, ms) => last_fired(out, at, text, name, ms),
+        Condition::TimerRunning(name) => put_named(out, at, b" timer", text, name, b" is running"),
+        Condition::ControllerActive => put(out, at, b" controller is active"),
+        Condition::VarCompare(name, comparison, operand) => var_compare(
             out, at, primary, text, name, comparison, operand,
         ),
-        Condition::DayIn(days) => return day_in(out, at, days),
+        Condition::DayIn(days) => day_in(out, at, days),
     }
 }

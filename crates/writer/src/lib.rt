@@ -13,8 +13,7 @@ ghost use Rattle.writing.specs.Writing.{least_bytes, possible_counts, first_impo
 
 use crate::rule::put_rule;
 use possible::entries;
-use sheet::rows::Verdict;
-use sheet::{Habit, Settings, adapters};
+use sheet::{Habit, Settings, View, adapters};
 use writing::{Lists, Written};
 
 // How many bytes the buffer has at least.
@@ -34,19 +33,12 @@ fn refused(number: u32, line: u32) -> Written
 }
 
 // The call where some text could give each entry: can it name them all?
-fn write_possible(
-    first: &[u8],
-    second: &[u8],
-    sheet: &[u8],
-    settings: Settings,
-    l: Lists,
-    out: &mut [u8],
-) -> Written
+fn write_possible(first: &[u8], second: &[u8], view: &View<'_>, l: Lists, out: &mut [u8]) -> Written
     requires { (least_bytes ≤ length out.old) × ((possible_counts l ≡ true) × (first_impossible first.now second.now l ≡ 0)) }
-    ensures { (result ≡ (by_reached (view_of settings sheet.now) first.now second.now l out.old).answer) × (out.new ≡ (by_reached (view_of settings sheet.now) first.now second.now l out.old).buffer) }
+    ensures { (result ≡ (by_reached (view_of view.now.settings view.now.sheet.now) first.now second.now l out.old).answer) × (out.new ≡ (by_reached (view_of view.now.settings view.now.sheet.now) first.now second.now l out.old).buffer) }
 {
-    let primary = settings.primary;
-    let at = entries::first_unreached(sheet, settings, l);
+    let primary = view.settings.primary;
+    let at = entries::first_unreached(view, l);
     if at == 0 {
         let end = put_rule(out, primary, first, second, l);
         return Written {
@@ -61,15 +53,8 @@ fn write_possible(
 }
 
 // The call where its primary adapter is its party's: is there room, and could a text give each entry?
-fn write_lists(
-    first: &[u8],
-    second: &[u8],
-    sheet: &[u8],
-    settings: Settings,
-    l: Lists,
-    out: &mut [u8],
-) -> Written
-    ensures { (result ≡ (by_room (view_of settings sheet.now) first.now second.now l out.old true).answer) × (out.new ≡ (by_room (view_of settings sheet.now) first.now second.now l out.old true).buffer) }
+fn write_lists(first: &[u8], second: &[u8], view: &View<'_>, l: Lists, out: &mut [u8]) -> Written
+    ensures { (result ≡ (by_room (view_of view.now.settings view.now.sheet.now) first.now second.now l out.old true).answer) × (out.new ≡ (by_room (view_of view.now.settings view.now.sheet.now) first.now second.now l out.old true).buffer) }
 {
     if out.len() < LEAST_BYTES {
         return refused(54, 0);
@@ -77,7 +62,7 @@ fn write_lists(
     if entries::possible_counts(l) {
         let at = entries::first_impossible(first, second, l);
         if at == 0 {
-            return write_possible(first, second, sheet, settings, l, out);
+            return write_possible(first, second, view, l, out);
         }
         return refused(55, at);
     }
@@ -98,24 +83,21 @@ pub fn write(
     ensures buffer { out.new ≡ (write_of party primary first.now second.now sheet.now l out.old).buffer }
 {
     let adapter = primary as u32;
-    let survey = sheet::rows::check(sheet, party as u32);
-    let said = survey.said;
-    let own = said.own;
-    let listed = said.listed;
-    let verdict = survey.verdict;
-    match verdict {
-        Verdict::BadLine(n) => refused(3, n),
-        Verdict::WellFormed => {
-            if adapters::has(own, adapter) {
+    match sheet::rows::check(sheet, party as u32) {
+        Err(bad) => refused(3, bad.line),
+        Ok(said) => {
+            if adapters::has(said.own, adapter) {
                 return write_lists(
                     first,
                     second,
-                    sheet,
-                    Settings {
-                        primary: adapter,
-                        habit: Habit::Rule,
-                        own,
-                        listed,
+                    &View {
+                        sheet,
+                        settings: Settings {
+                            primary: adapter,
+                            habit: Habit::Rule,
+                            own: said.own,
+                            listed: said.listed,
+                        },
                     },
                     l,
                     out,

@@ -22,11 +22,10 @@ fn put_trigger_from(
     requires { Fits out.old at (further (trigger_from_pieces first.now second.now primary x)) }
     ensures { Put out.old at (further (trigger_from_pieces first.now second.now primary x)) out.new result }
 {
-    let trigger = x.trigger;
     if x.from == 1 {
-        return put_trigger(out, at, primary, first, trigger);
+        return put_trigger(out, at, primary, first, x.trigger);
     }
-    put_trigger(out, at, primary, second, trigger)
+    put_trigger(out, at, primary, second, x.trigger)
 }
 
 // A trigger behind `when`.
@@ -58,12 +57,8 @@ fn more_triggers(
     ensures { Put out.old at (further (behind_each (ascii "when") (map (trigger_from_pieces first.now second.now primary) (drop 1 (take l.count l.rows))))) out.new result }
 {
     let mut end = at;
-    let mut i: u32 = 1;
-    while i < l.count {
-        let k = i as usize;
-        let x = l.rows[k];
-        end = next_trigger(out, end, primary, first, second, x);
-        i += 1;
+    for i in 1..l.count as usize {
+        end = next_trigger(out, end, primary, first, second, l.rows[i]);
     }
     end
 }
@@ -80,9 +75,8 @@ fn put_triggers(
     requires { (1 ≤ l.count) × ((l.count ≤ most_triggers) × Fits out.old at (spaced (behind_each (ascii "when") (map (trigger_from_pieces first.now second.now primary) (take l.count l.rows))))) }
     ensures { Put out.old at (spaced (behind_each (ascii "when") (map (trigger_from_pieces first.now second.now primary) (take l.count l.rows)))) out.new result }
 {
-    let x = l.rows[0];
     let i = put(out, at, b"when");
-    let j = put_trigger_from(out, i, primary, first, second, x);
+    let j = put_trigger_from(out, i, primary, first, second, l.rows[0]);
     more_triggers(out, j, primary, first, second, l)
 }
 
@@ -97,11 +91,10 @@ fn put_condition_from(
     requires { Fits out.old at (further (condition_from_pieces first.now second.now primary y)) }
     ensures { Put out.old at (further (condition_from_pieces first.now second.now primary y)) out.new result }
 {
-    let condition = y.condition;
     if y.from == 1 {
-        return put_condition(out, at, primary, first, condition);
+        return put_condition(out, at, primary, first, y.condition);
     }
-    put_condition(out, at, primary, second, condition)
+    put_condition(out, at, primary, second, y.condition)
 }
 
 // A condition behind `and`.
@@ -133,12 +126,8 @@ fn more_conditions(
     ensures { Put out.old at (further (behind_each (ascii "and") (map (condition_from_pieces first.now second.now primary) (drop 1 (take l.count l.rows))))) out.new result }
 {
     let mut end = at;
-    let mut i: u32 = 1;
-    while i < l.count {
-        let k = i as usize;
-        let y = l.rows[k];
-        end = next_condition(out, end, primary, first, second, y);
-        i += 1;
+    for i in 1..l.count as usize {
+        end = next_condition(out, end, primary, first, second, l.rows[i]);
     }
     end
 }
@@ -158,9 +147,8 @@ fn put_conditions(
     if l.count == 0 {
         return at;
     }
-    let y = l.rows[0];
     let i = put(out, at, b" if");
-    let j = put_condition_from(out, i, primary, first, second, y);
+    let j = put_condition_from(out, i, primary, first, second, l.rows[0]);
     more_conditions(out, j, primary, first, second, l)
 }
 
@@ -168,8 +156,6 @@ pub fn put_rule(out: &mut [u8], primary: u32, first: &[u8], second: &[u8], l: Li
     requires { (possible_counts l ≡ true) × Fits out.old 0 (spaced (list_pieces first.now second.now primary l)) }
     ensures { Put out.old 0 (spaced (list_pieces first.now second.now primary l)) out.new result }
 {
-    let triggers = l.triggers;
-    let conditions = l.conditions;
-    let i = put_triggers(out, 0, primary, first, second, triggers);
-    put_conditions(out, i, primary, first, second, conditions)
+    let i = put_triggers(out, 0, primary, first, second, l.triggers);
+    put_conditions(out, i, primary, first, second, l.conditions)
 }

@@ -9,8 +9,8 @@ use crate::choices::{
     put_time_reading,
 };
 use model::{
-    Delta, Event, EventReading, GroupReading, InputReading, InputRef, LampReading, Name, Number,
-    Operand, Reading, Ref, Sun, SunReading, TimeReading, Value,
+    Event, EventReading, GroupReading, InputReading, InputRef, LampReading, Name, Operand, Reading,
+    Ref, Sun, SunReading, TimeReading, Value,
 };
 use spelling::parts::{put_input, put_name, put_reference};
 use spelling::put::{put, put_string};
@@ -84,7 +84,7 @@ fn reads(
     primary: u32,
     text: &[u8],
     reading: Reading,
-    delta: Delta,
+    delta: Option<i64>,
 ) -> usize
     requires { Fits out.old at (further (value_pieces primary (name_in text.now) (Value.Reads reading delta))) }
     ensures { Put out.old at (further (value_pieces primary (name_in text.now) (Value.Reads reading delta))) out.new result }
@@ -98,13 +98,13 @@ fn put_reading(out: &mut [u8], at: usize, primary: u32, text: &[u8], reading: Re
     ensures { Put out.old at (further (reading_pieces primary (name_in text.now) reading)) out.new result }
 {
     match reading {
-        Reading::Lamp(r, property) => return lamp_reading(out, at, primary, r, property),
-        Reading::Group(r, property) => return group_reading(out, at, primary, r, property),
-        Reading::Input(r, property) => return input_reading(out, at, primary, r, property),
-        Reading::Time(property) => return time_reading(out, at, property),
-        Reading::Sun(property) => return sun_reading(out, at, property),
-        Reading::Event(property) => return event_reading(out, at, property),
-        Reading::Var(name) => return var_reading(out, at, text, name),
+        Reading::Lamp(r, property) => lamp_reading(out, at, primary, r, property),
+        Reading::Group(r, property) => group_reading(out, at, primary, r, property),
+        Reading::Input(r, property) => input_reading(out, at, primary, r, property),
+        Reading::Time(property) => time_reading(out, at, property),
+        Reading::Sun(property) => sun_reading(out, at, property),
+        Reading::Event(property) => event_reading(out, at, property),
+        Reading::Var(name) => var_reading(out, at, text, name),
     }
 }
 
@@ -113,8 +113,8 @@ pub fn put_value(out: &mut [u8], at: usize, primary: u32, text: &[u8], value: Va
     ensures { Put out.old at (further (value_pieces primary (name_in text.now) value)) out.new result }
 {
     match value {
-        Value::Literal(z) => return put_literal(out, at, z),
-        Value::Reads(reading, delta) => return reads(out, at, primary, text, reading, delta),
+        Value::Literal(z) => put_literal(out, at, z),
+        Value::Reads(reading, delta) => reads(out, at, primary, text, reading, delta),
     }
 }
 
@@ -123,7 +123,7 @@ pub fn put_operand(out: &mut [u8], at: usize, primary: u32, text: &[u8], operand
     ensures { Put out.old at (further (operand_pieces primary (name_in text.now) operand)) out.new result }
 {
     match operand {
-        Operand::Text(name) => return put_string(out, at, text, name),
-        Operand::Number(value) => return put_value(out, at, primary, text, value),
+        Operand::Text(name) => put_string(out, at, text, name),
+        Operand::Number(value) => put_value(out, at, primary, text, value),
     }
 }

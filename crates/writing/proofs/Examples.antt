@@ -1,9 +1,9 @@
 -- What is written for some entries, by evaluation: the examples of document 02, §7, and of what settles it.
+use Rattle.std.specs.Prelude.{Some}
 use Prim.Native.Nat.{ℕ}
 use mathlib.Core.Path.{◌≡◌, refl}
-use mathlib.Core.List.{List, [], ◌∷◌, ◌++◌}
-use lib.IntN.{ℤ, pos, negsuc}
-use Rattle.text.specs.Choice.{pick}
+use mathlib.Core.List.{List}
+use lib.IntN.{pos, negsuc}
 use Rattle.text.specs.Literal.{ascii}
 use Rattle.text.specs.Split.{split}
 use Rattle.text.specs.Bits.{bits_from}
@@ -13,17 +13,14 @@ use Rattle.model.specs.declared.Trigger.{Trigger}
 use Rattle.model.specs.declared.Condition.{Condition}
 use Rattle.model.specs.declared.Power.{Power}
 use Rattle.model.specs.declared.Event.{Event}
-use Rattle.model.specs.declared.Number.{Number}
 use Rattle.model.specs.declared.Selector.{Selector}
 use Rattle.model.specs.declared.SolarEvent.{SolarEvent}
-use Rattle.model.specs.declared.TimeBound.{TimeBound}
 use Rattle.model.specs.declared.LampProperty.{LampProperty}
 use Rattle.model.specs.declared.Comparison.{Comparison}
 use Rattle.model.specs.declared.Value.{Value}
 use Rattle.model.specs.declared.Reading.{Reading}
-use Rattle.model.specs.declared.Delta.{Delta}
 use Rattle.writing.specs.Pieces.{decimal, decimal_from, two_digits, three_digits, spelled_time, spelled_duration, spelled_sign, spelled, spaced}
-use Rattle.writing.specs.Write.{event_pieces, commas, day_if_in, days_pieces, on_pieces, offset_pieces, adapter_pieces, ref_pieces, device_pieces, instance_pieces, input_pieces, type_pieces, selector_pieces, target_pieces, name_pieces, bound_pieces, literal_pieces, delta_pieces, reading_pieces, value_pieces, operand_pieces, trigger_pieces, condition_pieces}
+use Rattle.writing.specs.Write.{event_pieces, commas, day_if_in, days_pieces, on_pieces, offset_pieces, adapter_pieces, ref_pieces, device_pieces, type_pieces, selector_pieces, name_pieces, bound_pieces, literal_pieces, delta_pieces, reading_pieces, value_pieces, trigger_pieces, condition_pieces}
 
 abbrev written : Trigger → List ℕ
 written x = spaced (trigger_pieces 0 (λ (n : Name). ascii "x") x)
@@ -35,7 +32,7 @@ lamp-on-one : written (Trigger.LampTurns (record { adapter = 1; number = 5 }) Po
 unfolding spaced spelled spelled_sign decimal decimal_from trigger_pieces adapter_pieces ref_pieces
 lamp-on-one = refl
 
-group-of-type : written (Trigger.InputEvent (Selector.Group 1 5 (Number.Is 4)) (Event.Raw 7)) ≡ ascii "input ( group = 5 , type = 4 , adapter = 1 ) is event ( data = 7 )"
+group-of-type : written (Trigger.InputEvent (Selector.Group 1 5 (Some 4)) (Event.Raw 7)) ≡ ascii "input ( group = 5 , type = 4 , adapter = 1 ) is event ( data = 7 )"
 unfolding spaced spelled spelled_sign decimal decimal_from trigger_pieces selector_pieces type_pieces adapter_pieces event_pieces
 group-of-type = refl
 
@@ -63,7 +60,7 @@ below-five : written_if (Condition.LampCompare (record { adapter = 0; number = 1
 unfolding spaced spelled spelled_sign decimal decimal_from condition_pieces adapter_pieces ref_pieces value_pieces literal_pieces
 below-five = refl
 
-plus-zero : written_if (Condition.LampCompare (record { adapter = 0; number = 1 }) LampProperty.Cct Comparison.Ge (Value.Reads (Reading.Var (record { start = 0; length = 1 })) (Delta.Is (pos 0)))) ≡ ascii "lamp ( 1 ) . cct >= var ( \"x\" ) + 0"
+plus-zero : written_if (Condition.LampCompare (record { adapter = 0; number = 1 }) LampProperty.Cct Comparison.Ge (Value.Reads (Reading.Var (record { start = 0; length = 1 })) (Some (pos 0)))) ≡ ascii "lamp ( 1 ) . cct >= var ( \"x\" ) + 0"
 unfolding spaced spelled spelled_sign decimal decimal_from condition_pieces adapter_pieces ref_pieces name_pieces value_pieces reading_pieces delta_pieces
 plus-zero = refl
 

@@ -1,9 +1,10 @@
 -- How many bytes are written at most: what is written for possible lists has room in the least buffer.
+use Rattle.std.specs.Prelude.{Option, Some, None}
 use Prim.Native.Nat.{ℕ, zero, suc, ◌+◌, ◌*◌, ◌/◌, ◌≤◌}
 use native.Mathlib.Omega.{arith}
-use mathlib.Core.Path.{◌≡◌, refl, ap, sym}
+use mathlib.Core.Path.{◌≡◌, refl}
 use mathlib.Core.Bool.{Bool, true}
-use mathlib.Core.List.{List, [], ◌∷◌, ◌++◌, map, append_assoc, append-nil}
+use mathlib.Core.List.{List, [], ◌∷◌, ◌++◌, map}
 use lib.ListN.{length, length-append, length-take}
 use lib.IntN.{ℤ, pos, negsuc}
 use lib.Dec.{ltb, leb, eqb}
@@ -21,11 +22,9 @@ use Rattle.model.specs.Limits.{last_short_address, longest_name}
 use Rattle.model.specs.Ranges.{Each}
 use Rattle.model.specs.declared.Condition.{Condition}
 use Rattle.model.specs.declared.Days.{Days}
-use Rattle.model.specs.declared.Delta.{Delta}
 use Rattle.model.specs.declared.Event.{Event}
 use Rattle.model.specs.declared.LightTarget.{LightTarget}
 use Rattle.model.specs.declared.Name.{Name}
-use Rattle.model.specs.declared.Number.{Number}
 use Rattle.model.specs.declared.Online.{Online}
 use Rattle.model.specs.declared.Operand.{Operand}
 use Rattle.model.specs.declared.Reading.{Reading}
@@ -38,7 +37,7 @@ use Rattle.writing.specs.Write.{ref_pieces, device_pieces, instance_pieces, inpu
 use Rattle.writing.specs.Possible.{is_inside, is_string, possible_string, possible_topic, possible_ref, possible_input, possible_reading, possible_value, possible_operand, possible_trigger, possible_condition}
 use Rattle.writing.specs.Writing.{behind_each, if_pieces, rule_pieces, triggers_in, conditions_in, possible_counts, is_text, text_of, possible_trigger_from, possible_condition_from, first_impossible, trigger_from_pieces, condition_from_pieces, list_pieces, least_bytes}
 use Rattle.writing.specs.declared.Lists.{Lists}
-use Rattle.writing.proofs.FurtherLaws.{further-append, spaced-further}
+use Rattle.writing.proofs.FurtherLaws.{spaced-further}
 use Rattle.writing.proofs.FailingLaws.{none-failing}
 use Rattle.writing.proofs.WordLaws.{power_word_lem, occupancy_word_lem, crossing_word_lem, aggregate_word_lem, override_word_lem, sun_word_lem, hcl_word_lem, solar_word_lem, property_word_lem, lamp_reading_word_lem, group_reading_word_lem, input_reading_word_lem, time_reading_word_lem, sun_reading_word_lem, event_reading_word_lem}
 
@@ -181,11 +180,11 @@ unfolding literal_pieces spelled_sign
 literal_room (pos n) = omega arith
 literal_room (negsuc n) = omega arith
 
-delta-room : (d : Delta) → room (delta_pieces d) ≤ 13
+delta-room : (d : Option ℤ) → room (delta_pieces d) ≤ 13
 unfolding delta_pieces spelled_sign
-delta-room Delta.Absent = omega arith
-delta-room (Delta.Is (pos n)) = omega arith
-delta-room (Delta.Is (negsuc n)) = omega arith
+delta-room None = omega arith
+delta-room (Some (pos n)) = omega arith
+delta-room (Some (negsuc n)) = omega arith
 
 -- ---- entries
 
@@ -197,8 +196,8 @@ module _ (primary : ℕ) where
   selector-room : (s : Selector) → room (selector_pieces primary s) ≤ 66
   unfolding selector_pieces type_pieces instance_pieces spelled_sign
   selector-room (Selector.Instance r n) = simp room-append (omega (arith, adapter-room r.adapter))
-  selector-room (Selector.Group a g Number.Absent) = simp room-append (omega (arith, adapter-room a))
-  selector-room (Selector.Group a g (Number.Is n)) = simp room-append (omega (arith, adapter-room a))
+  selector-room (Selector.Group a g None) = simp room-append (omega (arith, adapter-room a))
+  selector-room (Selector.Group a g (Some n)) = simp room-append (omega (arith, adapter-room a))
 
   target_room : (t : LightTarget) → room (target_pieces primary t) ≤ 44
   unfolding target_pieces ref_pieces spelled_sign

@@ -3,7 +3,7 @@ use Rattle.std.specs.Prelude.{ℕ, zero, suc, ◌+◌, ◌/◌, ◌%◌, List, [
 use Rattle.text.specs.Choice.{pick}
 use Rattle.text.specs.Literal.{ascii}
 use Rattle.text.specs.Split.{split}
-use Rattle.tokens.specs.Kind.{OPEN, CLOSE, COMMA, POINT, POINTS, ASSIGN, EQ, NE, GE, LE, GT, LT, PLUS, MINUS}
+use Rattle.tokens.specs.Kind.{OPEN, CLOSE, COMMA, POINT, POINTS, ASSIGN, EQ, NE, GE, LE, GT, LT, PLUS}
 use Rattle.tokens.specs.Rules.{most_run}
 
 pub data Piece : Type 0 where

@@ -1,11 +1,10 @@
 -- Which entries a text can give (document 02, §7): "a name outside its text, or an entry that by itself no text could give under any sheet". A test, number
 -- by number and name by name, as the code puts it; that it says yes exactly of the entries that some text gives with some sheet is shown (Given.antt).
-use Rattle.std.specs.Prelude.{ℕ, ◌+◌, ◌^◌, List, Bool, true, false, length, ℤ, pos, negsuc, ltb, leb, eqb}
+use Rattle.std.specs.Prelude.{ℕ, ◌+◌, ◌^◌, List, Bool, true, false, length, ℤ, pos, negsuc, ltb, leb, eqb, Result, Ok, Err, Option, Some, None}
 use Rattle.text.specs.Choice.{pick, within}
 use Rattle.text.specs.Find.{first_at}
 use Rattle.text.specs.Place.{check_of}
-use Rattle.text.specs.declared.place.Checked.{Checked}
-use Rattle.text.specs.declared.place.Checked.TheVariants.{WellFormed, IllFormed}
+use Rattle.text.specs.declared.place.IllFormed.{IllFormed}
 use Rattle.tokens.specs.Amount.{most_ms}
 use Rattle.tokens.specs.Rules.{most_run}
 use Rattle.tokens.specs.Numbers.{day_minutes}
@@ -15,12 +14,10 @@ use Rattle.language.specs.Limits.{least_period, most_later, most_earlier, most_t
 use Rattle.model.specs.Limits.{last_short_address, last_group, last_scene, last_level, last_instance, last_instance_group, last_instance_type, last_event_information, last_adapter, longest_name, week_days}
 use Rattle.model.specs.declared.Condition.{Condition}
 use Rattle.model.specs.declared.Days.{Days}
-use Rattle.model.specs.declared.Delta.{Delta}
 use Rattle.model.specs.declared.Event.{Event}
 use Rattle.model.specs.declared.InputRef.{InputRef}
 use Rattle.model.specs.declared.LightTarget.{LightTarget}
 use Rattle.model.specs.declared.Name.{Name}
-use Rattle.model.specs.declared.Number.{Number}
 use Rattle.model.specs.declared.Operand.{Operand}
 use Rattle.model.specs.declared.Reading.{Reading}
 use Rattle.model.specs.declared.Ref.{Ref}
@@ -36,9 +33,9 @@ unfoldable pub is_inside : List ℕ → Name → Bool
 is_inside text n = leb (n.start + n.length) (length text)
 
 -- bytes that a string can have: UTF-8 by themselves, and neither quote nor LF
-unfoldable pub is_well_formed : Checked → Bool
-is_well_formed WellFormed = true
-is_well_formed (IllFormed line column) = false
+unfoldable pub is_well_formed : Result Unit IllFormed → Bool
+is_well_formed (Ok _) = true
+is_well_formed (Err at) = false
 
 unfoldable pub has_byte : ℕ → List ℕ → Bool
 has_byte b bytes = ltb (first_at b bytes 0) (length bytes)
@@ -70,9 +67,9 @@ possible_ref most r = pick (leb r.adapter last_adapter) (leb r.number most) fals
 unfoldable pub possible_input : InputRef → Bool
 possible_input r = pick (possible_ref last_short_address r.device) (leb r.instance last_instance) false
 
-unfoldable pub possible_type : Number → Bool
-possible_type Number.Absent = true
-possible_type (Number.Is n) = leb n last_instance_type
+unfoldable pub possible_type : Option ℕ → Bool
+possible_type None = true
+possible_type (Some n) = leb n last_instance_type
 
 unfoldable pub possible_selector : Selector → Bool
 possible_selector (Selector.Instance r n) = pick (possible_ref last_short_address r) (leb n last_instance) false
@@ -128,9 +125,9 @@ possible_reading text (Reading.Sun p) = true
 possible_reading text (Reading.Event p) = true
 possible_reading text (Reading.Var n) = possible_name text n
 
-unfoldable pub possible_delta : Delta → Bool
-possible_delta Delta.Absent = true
-possible_delta (Delta.Is z) = possible_integer z
+unfoldable pub possible_delta : Option ℤ → Bool
+possible_delta None = true
+possible_delta (Some z) = possible_integer z
 
 unfoldable pub possible_value : List ℕ → Value → Bool
 possible_value text (Value.Literal z) = possible_integer z

@@ -3,11 +3,9 @@ use Rattle.std.specs.Prelude.{ℕ, Bool, true, false, eqb}
 use Rattle.text.specs.Choice.{pick}
 use Rattle.sheet.specs.View.{View}
 use Rattle.model.specs.declared.Condition.{Condition}
-use Rattle.model.specs.declared.InputRef.{InputRef}
 use Rattle.model.specs.declared.LightTarget.{LightTarget}
 use Rattle.model.specs.declared.Operand.{Operand}
 use Rattle.model.specs.declared.Reading.{Reading}
-use Rattle.model.specs.declared.Ref.{Ref}
 use Rattle.model.specs.declared.Selector.{Selector}
 use Rattle.model.specs.declared.Trigger.{Trigger}
 use Rattle.model.specs.declared.Value.{Value}

@@ -1,5 +1,5 @@
 -- What is written for the entries of two lists (document 02, §7), form by form in the order of the model.
-use Rattle.std.specs.Prelude.{ℕ, zero, suc, ◌+◌, List, [], ◌∷◌, ◌++◌, eqb, ℤ, pos, negsuc}
+use Rattle.std.specs.Prelude.{ℕ, zero, suc, ◌+◌, List, [], ◌∷◌, ◌++◌, eqb, ℤ, pos, negsuc, Option, Some, None}
 use Rattle.text.specs.Choice.{pick}
 use Rattle.text.specs.Literal.{ascii}
 use Rattle.tokens.specs.Kind.{OPEN, CLOSE, COMMA, POINT, POINTS, ASSIGN, EQ, NE, GE, LE, GT, LT, PLUS, MINUS}
@@ -9,7 +9,6 @@ use Rattle.model.specs.declared.Comparison.{Comparison}
 use Rattle.model.specs.declared.Condition.{Condition}
 use Rattle.model.specs.declared.Crossing.{Crossing}
 use Rattle.model.specs.declared.Days.{Days}
-use Rattle.model.specs.declared.Delta.{Delta}
 use Rattle.model.specs.declared.Event.{Event}
 use Rattle.model.specs.declared.EventReading.{EventReading}
 use Rattle.model.specs.declared.GroupReading.{GroupReading}
@@ -20,7 +19,6 @@ use Rattle.model.specs.declared.LampProperty.{LampProperty}
 use Rattle.model.specs.declared.LampReading.{LampReading}
 use Rattle.model.specs.declared.LightTarget.{LightTarget}
 use Rattle.model.specs.declared.Name.{Name}
-use Rattle.model.specs.declared.Number.{Number}
 use Rattle.model.specs.declared.Occupancy.{Occupancy}
 use Rattle.model.specs.declared.Online.{Online}
 use Rattle.model.specs.declared.Operand.{Operand}
@@ -180,14 +178,14 @@ literal_pieces (pos n) = integer n ∷ []
 literal_pieces (negsuc n) = sign MINUS ∷ integer (n + 1) ∷ []
 
 -- "an offset `+` or `-` (0 takes `+`)"
-unfoldable pub delta_pieces : Delta → List Piece
-delta_pieces Delta.Absent = []
-delta_pieces (Delta.Is (pos n)) = sign PLUS ∷ integer n ∷ []
-delta_pieces (Delta.Is (negsuc n)) = sign MINUS ∷ integer (n + 1) ∷ []
+unfoldable pub delta_pieces : Option ℤ → List Piece
+delta_pieces None = []
+delta_pieces (Some (pos n)) = sign PLUS ∷ integer n ∷ []
+delta_pieces (Some (negsuc n)) = sign MINUS ∷ integer (n + 1) ∷ []
 
-unfoldable pub type_pieces : Number → List Piece
-type_pieces Number.Absent = []
-type_pieces (Number.Is n) = sign COMMA ∷ argument (ascii "type") n
+unfoldable pub type_pieces : Option ℕ → List Piece
+type_pieces None = []
+type_pieces (Some n) = sign COMMA ∷ argument (ascii "type") n
 
 -- what is written of references needs the call's primary adapter
 module _ (primary : ℕ) where

@@ -14,8 +14,6 @@ use Rattle.writing.specs.Possible.{possible_trigger, possible_condition}
 use Rattle.writing.specs.Reached.{reached_trigger, reached_condition}
 use Rattle.writing.specs.declared.TriggerFrom.{TriggerFrom}
 use Rattle.writing.specs.declared.ConditionFrom.{ConditionFrom}
-use Rattle.writing.specs.declared.TriggersFrom.{TriggersFrom}
-use Rattle.writing.specs.declared.ConditionsFrom.{ConditionsFrom}
 use Rattle.writing.specs.declared.Lists.{Lists}
 use Rattle.writing.specs.declared.Written.{Written}
 

@@ -1,6 +1,10 @@
 // What is written for the two lists (document 02, §7): definitions, and the values of the call.
 #![tactic(auto)]
 
+ghost use Rattle.std.specs.Prelude.{◌≡◌, Bool, ◌+◌, ◌<◌, ◌^◌, length};
+ghost use Rattle.std.specs.Fn.{FnReturnsAt};
+ghost use Rattle.writing.specs.Writing.{failing};
+
 use model::{Condition, Trigger};
 
 // An entry, and the text in which its names stand: 1 for the first, 2 for the second.
@@ -16,7 +20,7 @@ pub struct ConditionFrom {
     pub condition: Condition,
 }
 
-// The lists: four entries each, of which the first count are in use.
+// The lists: four entries each, of which the first count are in use: nothing is put on the heap.
 #[derive(Clone, Copy)]
 pub struct TriggersFrom {
     pub rows: [TriggerFrom; 4],
@@ -35,7 +39,8 @@ pub struct Lists {
     pub conditions: ConditionsFrom,
 }
 
-// The answer: four zeros and how many bytes were written, or a refusal's number, place and detail.
+// The answer: four zeros and how many bytes were written, or a refusal's number, place and detail. The number says which, as
+// include/tergyosul.h has it for C.
 #[derive(Clone, Copy)]
 pub struct Written {
     pub number: u32,
@@ -43,4 +48,18 @@ pub struct Written {
     pub column: u32,
     pub detail: u32,
     pub length: u32,
+}
+
+// The ordinal of the first of these entries that fails the test, where `from` is that of the first of them; 0 where all pass.
+pub fn failing<T, F: Fn(&T) -> bool>(rows: &[T], from: u32, test: F) -> u32
+    requires callable { F.IsAlwaysCallable test }
+    requires fits { from + length rows.now < 2 ^ 32 }
+    ensures { (passes : T → Bool) → ((x : T) (r : Bool) → FnReturnsAt F.Fn test x r → r ≡ passes x) → result ≡ failing passes from rows.now }
+{
+    for (i, x) in rows.iter().enumerate() {
+        if !test(x) {
+            return from + i as u32;
+        }
+    }
+    0
 }

@@ -1,4 +1,4 @@
-use Prim.Native.Nat.{◌-◌, ◌≤◌}
+use Prim.Native.Nat.{◌-◌}
 use mathlib.Core.Path.{◌≡◌}
 use lib.ListN.{length}
 use lib.Seq.{sets}
@@ -8,9 +8,6 @@ use Rattle.chains.proofs.built.Given as goal
 
 abbrev pub invariant-loop-i : goal.invariant-loop-i
 invariant-loop-i l =
-    (l.i ≤ l.count) × (length l.pieces ≡ most_pieces) ×
+    (length l.pieces ≡ most_pieces) ×
     (sets l.pieces l.i (built l.v l.p l.low l.i l.place (l.count - l.i)) ≡
     sets l.initial.pieces l.initial.i (built l.v l.p l.low l.initial.i l.initial.place (l.count - l.initial.i)))
-
-abbrev pub decreases-loop-i : goal.decreases-loop-i
-decreases-loop-i l = l.count - l.i

@@ -6,6 +6,3 @@ use Rattle.chains.proofs.least.Given as goal
 
 abbrev pub invariant-loop-q : goal.invariant-loop-q
 invariant-loop-q l = least_from l.place l.left (piece_count - l.q) l.q ≡ least l.place l.low l.left
-
-abbrev pub decreases-loop-q : goal.decreases-loop-q
-decreases-loop-q l = piece_count - l.q

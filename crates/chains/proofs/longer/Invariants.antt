@@ -6,6 +6,3 @@ use Rattle.chains.proofs.longer.Given as goal
 
 abbrev pub invariant-loop-n : goal.invariant-loop-n
 invariant-loop-n l = longer_from l.v (most_pieces + 1 - l.n) l.n ≡ longer l.v l.from
-
-abbrev pub decreases-loop-n : goal.decreases-loop-n
-decreases-loop-n l = most_pieces + 1 - l.n

@@ -1,11 +1,9 @@
-use Prim.Native.Nat.{◌-◌}
 use mathlib.Core.Path.{◌≡◌}
-use lib.ListN.{length, drop}
+use lib.ListN.{drop}
 use Rattle.chains.specs.Way.{reached}
+use Rattle.chains.specs.declared.place.Place.TheVariants.{Start}
 use Rattle.chains.proofs.reached.Given as goal
 
-abbrev pub invariant-loop-i : goal.invariant-loop-i
-invariant-loop-i l = reached l.place (drop l.i l.v) ≡ reached l.initial.place (drop l.initial.i l.v)
-
-abbrev pub decreases-loop-i : goal.decreases-loop-i
-decreases-loop-i l = length l.v - l.i
+-- what is left leads from here to where all of it leads from the start
+abbrev pub invariant-loop-piece : goal.invariant-loop-piece
+invariant-loop-piece l = reached l.place (drop l.piece-index l.v) ≡ reached Start l.v

@@ -1,6 +1,6 @@
 use borrow.Author.Rules.{rules}
 use Rattle.topics.specs.Topics.{lent_topics}
-use Rattle.join.proofs.CallLaws.{finished, finished-triggers, held-room, held-front, earlier-words, first_refused, second_refused, both-accepted, promised}
+use Rattle.join.proofs.CallLaws.{finished, finished-triggers, held-front, earlier-words, first_refused, second_refused, both-accepted, promised}
 use Rattle.join.proofs.join.Goals as goal
 
 pub returns-then-one-ne0 : goal.returns-then-one-ne0
@@ -12,9 +12,6 @@ returns-then-one-ne0 c =
 
 pub topics_of-topics-requires : goal.topics_of-topics-requires
 topics_of-topics-requires c = finished-triggers (finished _ _ _ _ _ c.read-one.ensures.reading c.if-one-ne0.false)
-
-pub slice_bounds-ranges-end : goal.slice_bounds-ranges-end
-slice_bounds-ranges-end c = held-room _ _ c.topics_of-topics.ensures.value c.topics_of-topics.ensures.count_le_most_kept
 
 pub slice_bounds-read_after-end : goal.slice_bounds-read_after-end
 slice_bounds-read_after-end c = held-front _ _ c.topics_of-topics.ensures.value c.topics_of-topics.ensures.count_le_most_kept

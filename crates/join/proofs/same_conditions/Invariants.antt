@@ -1,4 +1,3 @@
-use Prim.Native.Nat.{◌-◌}
 use mathlib.Core.Path.{◌≡◌}
 use Rattle.join.specs.Kept.{Few}
 use Rattle.join.proofs.ConditionLaws.{Compared}
@@ -6,6 +5,3 @@ use Rattle.join.proofs.same_conditions.Given as goal
 
 abbrev pub invariant-loop-i : goal.invariant-loop-i
 invariant-loop-i l = Compared l.first l.second l.xs l.ys l.i × (l.xs.count ≡ l.ys.count) × Few l.xs.rows l.xs.count × Few l.ys.rows l.ys.count
-
-abbrev pub decreases-loop-i : goal.decreases-loop-i
-decreases-loop-i l = l.xs.count - l.i

@@ -1,5 +1,5 @@
 -- Readings and VALUE. `range` gives the bytes of a name's token.
-use Rattle.std.specs.Prelude.{ℕ, ◌≡◌, true, ℤ, pos}
+use Rattle.std.specs.Prelude.{ℕ, ◌≡◌, true, ℤ, pos, Some, None}
 use Rattle.text.specs.Literal.{ascii}
 use Rattle.tokens.specs.Kind.{INTEGER, POINT}
 use Rattle.tokens.specs.Cursor.{Tok}
@@ -21,7 +21,6 @@ use Rattle.model.specs.declared.SunReading.{SunReading}
 use Rattle.model.specs.declared.SunReading.TheVariants.{Rise, Set, IsUp}
 use Rattle.model.specs.declared.EventReading.{EventReading}
 use Rattle.model.specs.declared.Reading.{Reading}
-use Rattle.model.specs.declared.Delta.{Delta}
 use Rattle.model.specs.declared.Value.{Value}
 use Rattle.model.specs.declared.Value.TheVariants.{Literal, Reads}
 use Rattle.language.specs.grammar.Words.{Signed}
@@ -86,6 +85,6 @@ pub data ReadingOf (t : ℕ → Tok) (view : View) (range : ℕ → Name) : ℕ 
 pub data ValueOf (t : ℕ → Tok) (view : View) (range : ℕ → Name) : ℕ → Value → ℕ → Type 0 where
   number : {i n j : ℕ} → Token t INTEGER i n j → ValueOf t view range i (Literal (pos n)) j
   signed_number : {i j : ℕ} {z : ℤ} → Signed t INTEGER i z j → ValueOf t view range i (Literal z) j
-  reading : {i j : ℕ} {v : Reading} → ReadingOf t view range i v j → ValueOf t view range i (Reads v Delta.Absent) j
+  reading : {i j : ℕ} {v : Reading} → ReadingOf t view range i v j → ValueOf t view range i (Reads v None) j
   reading_with : {i j k : ℕ} {v : Reading} {z : ℤ} → ReadingOf t view range i v j → Signed t INTEGER j z k →
-      ValueOf t view range i (Reads v (Delta.Is z)) k
+      ValueOf t view range i (Reads v (Some z)) k

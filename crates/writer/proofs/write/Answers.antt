@@ -6,24 +6,24 @@ use Rattle.writer.proofs.write.Goals as goal
 pub returns-then-has : goal.returns-then-has
 returns-then-has c = let both = handed_on
     (is_own _ _ _ _ _ _ _
-    c.check-survey.ensures
-    c.in-WellFormed.is
+    c.check.ensures
+    c.in-Ok.is
     (search rules)
     c.has.ensures
     c.if-has.true)
     c.write_lists.ensures in record { value = both.0; buffer = both.1 }
 
-pub returns-in-BadLine : goal.returns-in-BadLine
-returns-in-BadLine c = let both = refused_by _ _
-    (bad_sheet _ _ _ _ _ _ _ c.check-survey.ensures c.in-BadLine.is)
+pub returns-in-Err : goal.returns-in-Err
+returns-in-Err c = let both = refused_by _ _
+    (bad_sheet _ _ _ _ _ _ _ c.check.ensures c.in-Err.is)
     c.refused.ensures in record { value = both.0; buffer = both.1 }
 
 pub returns-else-has : goal.returns-else-has
 returns-else-has c = let both = refused_by _ _
     (not_own_lem _ _ _ _ _ _ _
-    c.check-survey.ensures
-    c.in-WellFormed.is
+    c.check.ensures
+    c.in-Ok.is
     (search rules)
     c.has.ensures
     c.if-has.false)
-    c.refused-in-WellFormed.ensures in record { value = both.0; buffer = both.1 }
+    c.refused-in-Ok.ensures in record { value = both.0; buffer = both.1 }

@@ -1,5 +1,9 @@
-use Rattle.flat.proofs.RowLaws.{conditions}
+use borrow.Author.Rules.{rules}
+use Rattle.model.specs.Lists.{padded}
+use Rattle.flat.specs.Flat.{row_words, whole_row}
+use Rattle.flat.proofs.RowLaws.{value_read}
 use Rattle.flat.proofs.conditions.compared_row.Goals as goal
 
 pub returns : goal.returns
-returns c = search conditions depth 16
+unfolding whole_row row_words padded
+returns c = let known = value_read c.args.v c.value.result c.value.ensures (search rules) in search rules

@@ -9,8 +9,8 @@ overflow_cast-list c = search converting
 pub overflow_add-list : goal.overflow_add-list
 overflow_add-list c = search converting
 
-pub returns-in-Refused : goal.returns-in-Refused
-returns-in-Refused c = search converting
+pub returns-in-Err : goal.returns-in-Err
+returns-in-Err c = search converting
 
 pub offset_bounds-list-i : goal.offset_bounds-list-i
 offset_bounds-list-i c = search converting
@@ -18,8 +18,8 @@ offset_bounds-list-i c = search converting
 pub bounds-list-i : goal.bounds-list-i
 bounds-list-i c = search converting
 
-pub overflow_add-list-in-One : goal.overflow_add-list-in-One
-overflow_add-list-in-One c = search converting
+pub overflow_add-list-in-Ok : goal.overflow_add-list-in-Ok
+overflow_add-list-in-Ok c = search converting
 
 pub overflow_add-at : goal.overflow_add-at
 overflow_add-at c = search (rules, next_fits)

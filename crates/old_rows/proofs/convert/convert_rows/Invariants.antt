@@ -5,7 +5,7 @@ use Rattle.old_rows.proofs.ConvertLaws.{Going}
 use Rattle.old_rows.proofs.convert.convert_rows.Given as goal
 
 abbrev pub invariant-loop-at : goal.invariant-loop-at
-invariant-loop-at l = Going (view_of l.settings l.sheet) l.s l.list l.at
+invariant-loop-at l = Going (view_of l.view.settings l.view.sheet.now) l.s l.list l.at
 
 abbrev pub decreases-loop-at : goal.decreases-loop-at
 decreases-loop-at l = length l.s - l.at

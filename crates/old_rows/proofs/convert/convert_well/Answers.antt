@@ -3,8 +3,8 @@ use Rattle.old_rows.proofs.ConvertLaws.{calling}
 use Rattle.old_rows.proofs.ShapeLaws.{few-rows}
 use Rattle.old_rows.proofs.convert.convert_well.Goals as goal
 
-pub returns-then-s-eq0 : goal.returns-then-s-eq0
-returns-then-s-eq0 c = search calling
+pub returns-then-is_empty : goal.returns-then-is_empty
+returns-then-is_empty c = search calling
 
 pub convert_rows-requires : goal.convert_rows-requires
 convert_rows-requires c = search (rules, few-rows)

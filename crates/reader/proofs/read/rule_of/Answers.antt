@@ -1,11 +1,12 @@
+use mathlib.Core.Logic.{inl, inr}
 use Rattle.reader.proofs.ProfileLaws.{rule_default, rule-archive, rule-shop}
 use Rattle.reader.proofs.read.rule_of.Goals as goal
 
 pub returns-in-Rule : goal.returns-in-Rule
-returns-in-Rule c = search rule_default
-
-pub returns-in-Archive : goal.returns-in-Archive
-returns-in-Archive c = search rule-archive
+returns-in-Rule c = elim c.in-Rule.is [
+  | inl e ↦ rule_default _ _ _ _ _ e c.rule.ensures
+  | inr e ↦ rule-archive _ _ _ _ _ e c.rule.ensures
+]
 
 pub returns-in-Shop : goal.returns-in-Shop
 returns-in-Shop c = search rule-shop

@@ -6,10 +6,11 @@ use Rattle.language.specs.Range.{range_of}
 use Rattle.reader.proofs.SectionLaws.{AndLoop}
 use Rattle.reader.proofs.section.ands.Given as goal
 
-abbrev pub invariant-loop-list : goal.invariant-loop-list
-invariant-loop-list l = let t = tokens l.text l.words in
-    let view = view_of l.settings l.s in
-    AndLoop t view (range_of l.words) (capacity l.words) l.initial.list l.initial.p.index l.list l.p.index
+abbrev pub invariant-loop-next : goal.invariant-loop-next
+invariant-loop-next l =
+    let words = l.t.words.now in
+    AndLoop (tokens l.t.text.now words) (view_of l.view.settings l.view.sheet.now) (range_of words) (capacity words) l.initial.list l.initial.p.index l.list
+    l.p.index
 
-abbrev pub decreases-loop-list : goal.decreases-loop-list
-decreases-loop-list l = 4 - l.list.count
+abbrev pub decreases-loop-next : goal.decreases-loop-next
+decreases-loop-next l = 4 - l.list.count

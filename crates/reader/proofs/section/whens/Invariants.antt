@@ -7,12 +7,15 @@ use Rattle.language.specs.Range.{range_of}
 use Rattle.reader.proofs.SectionLaws.{WhensLoop, whole_of}
 use Rattle.reader.proofs.section.whens.Given as goal
 
-abbrev pub invariant-loop-list : goal.invariant-loop-list
-invariant-loop-list l = let t = tokens l.text l.words in
-    let view = view_of l.settings l.s in
-    let topics = lent_with l.lent l.first l.earlier in
-    WhensLoop l.text t view (range_of l.words) topics (capacity l.words)
-    (whole_of l.text t view (range_of l.words) topics (capacity l.words) l.initial.p.index) l.list l.named l.p.index
+abbrev pub invariant-loop-next : goal.invariant-loop-next
+invariant-loop-next l =
+    let text = l.t.text.now in
+    let words = l.t.words.now in
+    let t = tokens text words in
+    let view = view_of l.view.settings l.view.sheet.now in
+    let topics = lent_with l.lent.lines.now l.lent.first.now l.lent.earlier.now in
+    WhensLoop text t view (range_of words) topics (capacity words) (whole_of text t view (range_of words) topics (capacity words) l.initial.p.index)
+    l.list l.named l.p.index
 
-abbrev pub decreases-loop-list : goal.decreases-loop-list
-decreases-loop-list l = 4 - l.list.count
+abbrev pub decreases-loop-next : goal.decreases-loop-next
+decreases-loop-next l = 4 - l.list.count

@@ -1,10 +1,6 @@
-use mathlib.Core.Path.{refl}
 use borrow.Author.Rules.{rules}
 use Rattle.sheet.proofs.PlainLaws.{block_on, marked, last_block}
 use Rattle.sheet.proofs.line.blocks_plain.Goals as goal
-
-pub loop-at-init : goal.loop-at-init
-loop-at-init c = refl
 
 pub loop-at-preserved : goal.loop-at-preserved
 loop-at-preserved c = search (rules, block_on)

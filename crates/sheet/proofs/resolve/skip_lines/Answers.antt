@@ -12,7 +12,7 @@ use Rattle.sheet.specs.Sheet.{line_end}
 use Rattle.sheet.proofs.SkipLaws.{passed-end, passed-more}
 use Rattle.sheet.proofs.ReturnLaws.{return_length}
 use Rattle.sheet.proofs.resolve.skip_lines.Goals as goal
-use Rattle.sheet.proofs.resolve.skip_lines.Goals.{then-l-name-eq44+else-ends_with, else-l-name-eq44}
+use Rattle.sheet.proofs.resolve.skip_lines.Goals.{else-l-name-eq44-via-then-l-name-eq44+else-ends_with, else-l-name-eq44-via-else-l-name-eq44}
 
 -- the line that ends behind the next so many bytes
 module _ (s name : List ℕ) {at end : ℕ} (room : length name + 9 ≤ length s) (test : at ≤ length s - (length name + 9))
@@ -28,7 +28,7 @@ module _ (s name : List ℕ) {at end : ℕ} (room : length name + 9 ≤ length s
 pub returns-then-len-least : goal.returns-then-len-least
 returns-then-len-least c =
     let a = c.args in
-    let e = c.later.ensures in
+    let e = c.max.ensures in
     record { passed = passed-end a.name.now a.s.now a.from a.from (λ own kind scope t. refl) e (omega arith); lower_bound = omega arith }
 
 pub loop-at-init : goal.loop-at-init
@@ -68,9 +68,9 @@ loop-at-preserved c =
     let i = inside _ _ c.if-len-least.false c.loop-at-test.true c.line_end-end.ensures in (
       passed-more _ _ _ _ c.loop-at.invariant.0 (omega arith) c.line_end-end.ensures c.without_return-l.ensures
           (λ e.
-          elim c.if-l-name-eq44.branch [
-            | then-l-name-eq44+else-ends_with w ↦ absurd (false≢true (sym w.if-ends_with.false ∙ w.ends_with.ensures ∙ e.1))
-            | else-l-name-eq44 w ↦ w.if-l-name-eq44.false e.0
+          elim c.else-l-name-eq44.branch [
+            | else-l-name-eq44-via-then-l-name-eq44+else-ends_with w ↦ absurd (false≢true (sym w.if-ends_with.false ∙ w.ends_with.ensures ∙ e.1))
+            | else-l-name-eq44-via-else-l-name-eq44 w ↦ w.if-l-name-eq44.false e.0
           ]),
       omega arith,
     )
@@ -79,5 +79,5 @@ pub returns : goal.returns
 returns c =
     let a = c.args in
     let l = c.loop-at in
-    let e = c.later-2.ensures in
+    let e = c.max-2.ensures in
     record { passed = passed-end a.name.now a.s.now a.from l.at l.invariant.0 e (omega arith); lower_bound = omega (arith, l.invariant.1) }

@@ -1,29 +1,28 @@
-use mathlib.Core.Path.{refl}
+use Prim.Native.Nat.{suc, ◌+◌, ◌-◌}
+use mathlib.Core.Path.{◌≡◌, refl}
 use native.Mathlib.Omega.{arith}
-use lib.ListN.{length-set}
-use borrow.Author.Rules.{rules}
 use Rattle.spelling.proofs.PutLaws.{fits-1, put_1}
-use Rattle.spelling.proofs.NumberLaws.{no_digit, next-digit, one-digit, tenth_digit}
-use Rattle.spelling.proofs.numbers.put_decimal.Goals.{then-rest-lt10, else-rest-lt10+then-first-eq0}
+use Rattle.spelling.proofs.NumberLaws.{no_digit, next-digit, first_digit, ten_digits}
 use Rattle.spelling.proofs.numbers.put_decimal.Goals as goal
 
-pub loop-rest-init : goal.loop-rest-init
-loop-rest-init c = no_digit c.args.n refl
+pub loop-i-init : goal.loop-i-init
+loop-i-init c = (refl, no_digit c.args.n refl)
 
-pub loop-rest-preserved : goal.loop-rest-preserved
-loop-rest-preserved c = next-digit c.loop-rest.invariant c.digit.ensures c.if-rest-lt10.false c.if-first-eq0.false
-
-pub slice_bounds-put-end : goal.slice_bounds-put-end
-slice_bounds-put-end c = simp length-set (omega (arith, c.loop-rest.invariant.long))
+pub loop-i-preserved : goal.loop-i-preserved
+loop-i-preserved c = let up : 10 - c.loop-i.i ≡ suc (10 - (c.loop-i.i + 1)) = omega arith in
+    let place : 9 - c.loop-i.i ≡ 10 - (c.loop-i.i + 1) = omega arith in
+    (c.loop-i.invariant.0, rw place (next-digit c.loop-i.invariant.1 up c.digit.ensures (omega arith)))
 
 pub put-requires : goal.put-requires
-put-requires c =
-    let s = c.loop-rest.invariant in
-    let e = c.digit.ensures in
-    search (rules, fits-1 (elim c.if-rest-lt10.branch [ then-rest-lt10 w ↦ one-digit s e w.if-rest-lt10.true | else-rest-lt10+then-first-eq0 w ↦ tenth_digit s e w.if-first-eq0.true ]))
+put-requires c = let up : 10 - c.loop-i.i ≡ suc (9 - c.loop-i.i) = omega arith in
+    rw c.loop-i.invariant.0 (fits-1 (first_digit c.loop-i.invariant.1 up c.digit.ensures (omega arith)) _ _ c.requires)
+
+pub returns-then-rest-eq0 : goal.returns-then-rest-eq0
+returns-then-rest-eq0 c = let up : 10 - c.loop-i.i ≡ suc (9 - c.loop-i.i) = omega arith in
+    rw (← c.loop-i.invariant.0) (put_1 (first_digit c.loop-i.invariant.1 up c.digit.ensures (omega arith)) _ _ _ _ c.put.ensures)
+
+pub put-requires-2 : goal.put-requires-2
+put-requires-2 c = rw c.loop-i.invariant.0 (fits-1 (ten_digits c.loop-i.invariant.1 (omega arith)) _ _ c.requires)
 
 pub returns : goal.returns
-returns c =
-    let s = c.loop-rest.invariant in
-    let e = c.digit.ensures in
-    search (rules, put_1 (elim c.if-rest-lt10.branch [ then-rest-lt10 w ↦ one-digit s e w.if-rest-lt10.true | else-rest-lt10+then-first-eq0 w ↦ tenth_digit s e w.if-first-eq0.true ]))
+returns c = rw (← c.loop-i.invariant.0) (put_1 (ten_digits c.loop-i.invariant.1 (omega arith)) _ _ _ _ c.put-2.ensures)

@@ -12,20 +12,20 @@ pub returns-then-answer-lt-CHAIN_WORDS : goal.returns-then-answer-lt-CHAIN_WORDS
 returns-then-answer-lt-CHAIN_WORDS c = search (rules, unwritten)
 
 pub loop-i-init : goal.loop-i-init
-loop-i-init c = (search rules, refl, refl)
+loop-i-init c = (refl, refl)
 
 pub bounds-answer-i : goal.bounds-answer-i
-bounds-answer-i c = rw c.loop-i.invariant.1 (simp length-set (omega arith))
+bounds-answer-i c = rw c.loop-i.invariant.0 (simp length-set (omega arith))
 
 pub loop-i-preserved : goal.loop-i-preserved
-loop-i-preserved c = (search rules, search rules, search (rules, one_piece))
+loop-i-preserved c = (search rules, search (rules, one_piece))
 
 pub shape_of-answer : goal.shape_of-answer
-shape_of-answer c = rw c.loop-i.invariant.1 (simp length-set (search rules))
+shape_of-answer c = rw c.loop-i.invariant.0 (simp length-set (search rules))
 
 pub returns : goal.returns
 returns c = let a = c.args in
     let room : chain_answer_words ≤ length a.answer.now = search rules in
     let size : length a.c.pieces ≡ most_pieces = search rules in
     let done : length a.c.pieces ≤ c.loop-i.i = omega arith in
-    all-pieces a.c a.answer.now room c.put_four.ensures c.held.ensures done c.loop-i.invariant.2
+    all-pieces a.c a.answer.now room c.put_four.ensures c.held.ensures done c.loop-i.invariant.1

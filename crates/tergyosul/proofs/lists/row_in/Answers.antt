@@ -7,7 +7,7 @@ use Rattle.tergyosul.proofs.lists.row_in.Goals as goal
 
 pub loop-i-init : goal.loop-i-init
 unfolding row_words row_count first_condition first_trigger list_rows
-loop-i-init c = (search rules, refl, refl)
+loop-i-init c = (refl, refl)
 
 pub word_in-requires : goal.word_in-requires
 unfolding row_words row_count first_condition first_trigger list_rows
@@ -17,23 +17,19 @@ pub offset_bounds-out-i : goal.offset_bounds-out-i
 unfolding row_words row_count first_condition first_trigger list_rows
 offset_bounds-out-i c = search rules
 
-pub loop-i-smaller : goal.loop-i-smaller
-unfolding row_words row_count first_condition first_trigger list_rows
-loop-i-smaller c = search rules
-
 pub loop-i-preserved : goal.loop-i-preserved
 unfolding row_words
 loop-i-preserved c = let a = c.args in
     let l = c.loop-i in
     let all = row_in a.words.now a.row in
     let there = c.word_in.ensures ∙ row_word a.words.now a.row l.i (search rules) in
-    (search rules, search rules, one-filled all l.out l.i (row-length _ _) l.invariant.1 l.invariant.2 0 (search rules) there)
+    (search rules, one-filled all l.out l.i (row-length _ _) l.invariant.0 l.invariant.1 0 (search rules) there)
 
 pub returns : goal.returns
 unfolding row_words
 returns c = let a = c.args in
     let l = c.loop-i in
-    all-filled (row_in a.words.now a.row) l.out l.i (row-length _ _) l.invariant.1 l.invariant.2 (search rules)
+    all-filled (row_in a.words.now a.row) l.out l.i (row-length _ _) l.invariant.0 l.invariant.1 (search rules)
 
 pub overflow_mul-at : goal.overflow_mul-at
 unfolding row_words row_count first_condition first_trigger list_rows

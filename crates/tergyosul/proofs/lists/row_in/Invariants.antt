@@ -1,4 +1,3 @@
-use Prim.Native.Nat.{◌≤◌, ◌-◌}
 use mathlib.Core.Path.{◌≡◌}
 use lib.ListN.{length, take}
 use Rattle.flat.specs.Flat.{row_words}
@@ -7,7 +6,4 @@ use Rattle.tergyosul.proofs.lists.row_in.Given as goal
 
 -- the words before `i` are in place
 abbrev pub invariant-loop-i : goal.invariant-loop-i
-invariant-loop-i l = (l.i ≤ row_words) × (length l.out ≡ row_words) × (take l.i l.out ≡ take l.i (row_in l.words l.row))
-
-abbrev pub decreases-loop-i : goal.decreases-loop-i
-decreases-loop-i l = row_words - l.i
+invariant-loop-i l = (length l.out ≡ row_words) × (take l.i l.out ≡ take l.i (row_in l.words l.row))

@@ -1,15 +1,16 @@
-use mathlib.Core.Path.{◌≡◌, ◌∙◌}
-use lib.ListN.{length}
-use native.Mathlib.Omega.{arith}
-use Rattle.text.proofs.FindLaws.{first_past, first-here, first_next}
+use Rattle.std.proofs.Common.{rules, tests, ◌≡◌}
+use Rattle.std.proofs.lemmas.Iterator.{IsFirst-from_position, YieldsList-from_slice}
+use Rattle.text.proofs.FindLaws.{first-some, first-none}
 use Rattle.text.proofs.find.find_each.Goals as goal
 
-pub returns-then-s-i : goal.returns-then-s-i
-returns-then-s-i c = first-here _ _ _ (omega arith) c.if-s-i.true ∙ c.loop-i.invariant.0
+pub returns-in-Some : goal.returns-in-Some
+returns-in-Some c =
+    first-some _ _ _ (search rules)
+    (IsFirst-from_position _ _ _ (λ x. x ≡ c.args.b) (λ x. x ≡ c.args.b → ⊥) c.position.ensures.ran
+    (YieldsList-from_slice _ c.iter.ensures.rest) (λ x q k. search (rules, tests)) (λ x q k. search (rules, tests))) c.in-Some.is
 
-pub loop-i-preserved : goal.loop-i-preserved
-loop-i-preserved c = (first_next _ _ _ (omega arith) c.if-s-i.false ∙ c.loop-i.invariant.0, omega arith)
-
-pub returns : goal.returns
-returns c =
-    let e : c.loop-i.i ≡ length c.args.s.now = omega arith in e ∙ first_past _ _ _ (omega arith) ∙ c.loop-i.invariant.0
+pub returns-in-None : goal.returns-in-None
+returns-in-None c =
+    first-none _ _ _ (search rules)
+    (IsFirst-from_position _ _ _ (λ x. x ≡ c.args.b) (λ x. x ≡ c.args.b → ⊥) c.position.ensures.ran
+    (YieldsList-from_slice _ c.iter.ensures.rest) (λ x q k. search (rules, tests)) (λ x q k. search (rules, tests))) c.in-None.is

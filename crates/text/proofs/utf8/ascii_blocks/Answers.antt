@@ -1,20 +1,8 @@
-use Rattle.text.proofs.BlockLaws.{blocks}
+use borrow.Author.Rules.{rules}
+use borrow.Author.Tests.{tests}
+use Rattle.text.specs.Utf8.{is_ascii}
 use Rattle.text.proofs.utf8.ascii_blocks.Goals as goal
 
-pub loop-at-init : goal.loop-at-init
-loop-at-init c = search blocks
-
-pub eight_ascii-requires : goal.eight_ascii-requires
-eight_ascii-requires c = search blocks
-
-pub overflow_add-at : goal.overflow_add-at
-overflow_add-at c = search blocks
-
-pub loop-at-smaller : goal.loop-at-smaller
-loop-at-smaller c = search blocks
-
-pub loop-at-preserved : goal.loop-at-preserved
-loop-at-preserved c = search blocks
-
 pub returns : goal.returns
-returns c = search blocks
+unfolding is_ascii
+returns c = c.row.ensures is_ascii (λ b r h k. search (rules, tests))

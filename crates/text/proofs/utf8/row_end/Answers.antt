@@ -31,16 +31,11 @@ module _ (s : List ℕ) (at : ℕ) {e : ℕ} (i : row_end at (chars s at) ≡ e)
   row-byte : at < length s → get_or s at 0 < 0x80 → row_end (at + 1) (chars s (at + 1)) ≡ e
   row-byte h k = row_on (get_or s at 0) (at + 1) (decode-byte s at h k)
 
-  -- an answer a of decode, taken apart
-  module _ {a : Decoded} (d : a ≡ decode_at s at) where
-    row_next : {c n : ℕ} → a ≡ Char c n → row_end n (chars s n) ≡ e
-    row_next {c} {n} m = row_on c n (sym d ∙ m)
-
-    row-bad : a ≡ Bad → at ≡ e
-    row-bad m = row-stop (chars-bad s at (sym d ∙ m))
-
-    row-end : a ≡ End → at ≡ e
-    row-end m = row-stop (chars-end s at (sym d ∙ m))
+  -- where the answer of decode is no character there is none
+  row-none : (d : Decoded) → decode_at s at ≡ d → ((code next : ℕ) → decode_at s at ≡ Char code next → ⊥) → at ≡ e
+  row-none (Char code next) d n = absurd (n code next d)
+  row-none Bad d n = row-stop (chars-bad s at d)
+  row-none End d n = row-stop (chars-end s at d)
 
 -- the row goes on behind bytes below 0x80
 row-ascii : (s : List ℕ) (from at : ℕ) {e : ℕ} → Row is_ascii s from at → row_end from (chars s from) ≡ e → row_end at (chars s at) ≡ e
@@ -60,16 +55,14 @@ pub loop-at-preserved-then-s-at-lt128 : goal.loop-at-preserved-then-s-at-lt128
 loop-at-preserved-then-s-at-lt128 c = search (rules, row-byte)
 
 pub loop-at-smaller : goal.loop-at-smaller
-loop-at-smaller c = search (rules, less-left)
+loop-at-smaller c = less-left _ _ c.decode.ensures.value c.in-Char.is (search rules)
 
 pub loop-at-preserved : goal.loop-at-preserved
-loop-at-preserved c = row-ascii _ _ _ c.ascii_blocks-at-in-Char.ensures (search (rules, row_next))
+loop-at-preserved c =
+    row-ascii _ _ _ c.ascii_blocks-at-in-Char.ensures (row_on _ _ c.loop-at.invariant _ _ (sym c.decode.ensures.value ∙ c.in-Char.is))
 
-pub returns-in-Bad : goal.returns-in-Bad
-returns-in-Bad c = row-bad _ _ c.loop-at.invariant c.decode-d.ensures.value c.in-Bad.is
-
-pub returns-in-End : goal.returns-in-End
-returns-in-End c = row-end _ _ c.loop-at.invariant c.decode-d.ensures.value c.in-End.is
+pub returns-in_default : goal.returns-in_default
+returns-in_default c = row-none _ _ c.loop-at.invariant _ refl (λ code next e. c.in_default.not-Char _ _ (c.decode.ensures.value ∙ e))
 
 pub returns : goal.returns
 returns c = search (rules, row-past)

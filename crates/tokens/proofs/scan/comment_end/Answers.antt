@@ -15,5 +15,5 @@ loop-q-smaller c = search (rules, comment-less)
 pub loop-q-preserved : goal.loop-q-preserved
 loop-q-preserved c = (search (rules, comment-behind), search (rules, comment-on))
 
-pub returns-in-Stop : goal.returns-in-Stop
-returns-in-Stop c = (search (rules, comment_stop), search rules)
+pub returns-in-None : goal.returns-in-None
+returns-in-None c = (search (rules, comment_stop), search rules)

@@ -11,7 +11,7 @@ returns-then-not-is_digit c = search scans
 
 pub returns-then-more-gt1000000000 : goal.returns-then-more-gt1000000000
 returns-then-more-gt1000000000 c = digits-many _ _ _ _ _ c.loop-line.invariant.1 c.octet-code.ensures
-    c.is_digit.ensures (rw c.if-not-is_digit.false refl) c.digit_value.ensures c.if-more-gt1000000000.true
+    c.is_digit.ensures (rw c.if-not-is_digit.false refl) c.digit_value.ensures (rw c.from.ensures at c.if-more-gt1000000000.true)
 
 pub overflow_add-at : goal.overflow_add-at
 overflow_add-at c = search scans

@@ -36,5 +36,5 @@ loop-at-smaller c = search (rules, place-less)
 pub loop-at-preserved : goal.loop-at-preserved
 loop-at-preserved c = search (rules, trivia-white)
 
-pub returns-in-Stop : goal.returns-in-Stop
-returns-in-Stop c = search (rules, trivia-none)
+pub returns-in-None : goal.returns-in-None
+returns-in-None c = search (rules, trivia-none)

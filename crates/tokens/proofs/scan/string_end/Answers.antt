@@ -18,10 +18,10 @@ pub loop-next-preserved-then-b-lt128 : goal.loop-next-preserved-then-b-lt128
 loop-next-preserved-then-b-lt128 c = search scans
 
 pub loop-next-smaller : goal.loop-next-smaller
-loop-next-smaller c = less-left _ _ c.decoded.ensures c.in-Next.is
+loop-next-smaller c = less-left _ _ c.decoded.ensures c.in-Some.is
 
 pub loop-next-preserved : goal.loop-next-preserved
-loop-next-preserved c = at_next _ _ c.decoded.ensures c.loop-next.invariant c.in-Next.is
+loop-next-preserved c = at_next _ _ c.decoded.ensures c.loop-next.invariant c.in-Some.is
     (quoted-wide _ _ _ _ c.octet-b.ensures c.if-b-lt128.false)
 
 pub returns-then-b-eq34 : goal.returns-then-b-eq34
@@ -31,5 +31,5 @@ pub returns-then-b-eq10 : goal.returns-then-b-eq10
 returns-then-b-eq10 c = quoted-end _ _ _ _ c.octet-b.ensures c.loop-next.invariant c.if-b-lt128.true
     c.if-b-eq10.true
 
-pub returns-in-Stop : goal.returns-in-Stop
-returns-in-Stop c = at_stop _ _ c.decoded.ensures c.loop-next.invariant c.in-Stop.is (λ t. quoted_stop t)
+pub returns-in-None : goal.returns-in-None
+returns-in-None c = at_stop _ _ c.decoded.ensures c.loop-next.invariant c.in-None.is (λ t. quoted_stop t)

@@ -41,8 +41,8 @@ module _ (lent topic : List ℕ) (at : ℕ) {start : Bool} (i : has topic (lent_
         (λ t. rw (lent-line lent at h e q (eqb-false (length p) 0 t), ← said, k) at i)
         (told (eqb (length p) 0))
 
-pub returns-then-topic-eq0 : goal.returns-then-topic-eq0
-returns-then-topic-eq0 c = search (rules, empty)
+pub returns-then-is_empty : goal.returns-then-is_empty
+returns-then-is_empty c = search (rules, empty)
 
 pub loop-at-init : goal.loop-at-init
 loop-at-init c = refl

@@ -6,7 +6,7 @@ use borrow.Author.Rules.{rules}
 use Rattle.topics.specs.Topics.{different}
 use Rattle.topics.specs.Ranges.{first_in, in_use, topics_in}
 use Rattle.topics.specs.declared.ranges.Ranges.{Ranges}
-use Rattle.topics.proofs.RangeLaws.{most-used, one-different, none-different}
+use Rattle.topics.proofs.RangeLaws.{one-different, none-different}
 use Rattle.topics.proofs.ranges.different_beside.Goals as goal
 use Rattle.topics.proofs.ranges.different_beside.Goals.{then-not-holds_first, else-not-holds_first}
 
@@ -23,13 +23,13 @@ done s ranges others {n} {i} e o h k =
     rw (← e, d) o
 
 pub loop-i-init : goal.loop-i-init
-loop-i-init c = (search (rules, begin), search rules, search rules, search (rules, most-used), search rules)
+loop-i-init c = (search (rules, begin), search rules, search rules, search rules)
 
 pub loop-i-preserved : goal.loop-i-preserved
 loop-i-preserved c =
     elim c.if-not-holds_first.branch [
-      | then-not-holds_first w ↦ (search (rules, one-different), omega arith, search rules, search rules, search rules)
-      | else-not-holds_first w ↦ (search (rules, none-different), omega arith, search rules, search rules, search rules)
+      | then-not-holds_first w ↦ (search (rules, one-different), omega arith, search rules, search rules)
+      | else-not-holds_first w ↦ (search (rules, none-different), omega arith, search rules, search rules)
     ]
 
 pub returns : goal.returns

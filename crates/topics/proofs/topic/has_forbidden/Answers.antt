@@ -18,12 +18,6 @@ module _ (s : List ℕ) (at : ℕ) {start : Bool} {a : Decoded} (i : forbidden_a
   unfolding forbidden_among
   none e = rw e at i
 
-  bad : a ≡ Bad → false ≡ start
-  bad m = none (chars-bad s at (sym d ∙ m))
-
-  end : a ≡ End → false ≡ start
-  end m = none (chars-end s at (sym d ∙ m))
-
   module _ {code next : ℕ} (m : a ≡ Char code next) {r : Bool} (is : r ≡ is_forbidden code) where
     yes : r ≡ true → true ≡ start
     unfolding forbidden_among
@@ -36,17 +30,16 @@ module _ (s : List ℕ) (at : ℕ) {start : Bool} {a : Decoded} (i : forbidden_a
   less : {code next : ℕ} → a ≡ Char code next → length s - next < length s - at
   less {code} {next} m = let h = char-inside s at code next (sym d ∙ m) in omega arith
 
+-- no character is there
+past : (s : List ℕ) (at : ℕ) {start : Bool} → forbidden_among (chars s at) ≡ start → (a : Decoded) → a ≡ decode_at s at →
+    ((code next : ℕ) → a ≡ Char code next → ⊥) → false ≡ start
+past s at i Bad d f = none s at i d (chars-bad s at (sym d))
+past s at i End d f = none s at i d (chars-end s at (sym d))
+past s at i (Char code next) d f = absurd (f code next refl)
+
 pub loop-code-init : goal.loop-code-init
 unfolding forbidden
 loop-code-init c = refl
-
-pub returns-in-Bad : goal.returns-in-Bad
-unfolding forbidden
-returns-in-Bad c = search (rules, bad)
-
-pub returns-in-End : goal.returns-in-End
-unfolding forbidden
-returns-in-End c = search (rules, end)
 
 pub returns-then-is_forbidden : goal.returns-then-is_forbidden
 unfolding forbidden
@@ -58,3 +51,7 @@ loop-code-smaller c = search (rules, less)
 pub loop-code-preserved : goal.loop-code-preserved
 unfolding forbidden
 loop-code-preserved c = search (rules, on)
+
+pub returns : goal.returns
+unfolding forbidden
+returns c = search (rules, past)

@@ -1,5 +1,5 @@
 use Prim.Native.Nat.{ℕ}
-use mathlib.Core.Path.{◌≡◌, ◌∙◌, ap, sym}
+use mathlib.Core.Path.{◌≡◌, ◌∙◌, refl, ap, sym}
 use mathlib.Core.Bool.{Bool, true, false}
 use mathlib.Core.List.{List, [], ◌∷◌}
 use native.Mathlib.Omega.{arith}
@@ -33,38 +33,18 @@ module _ (t : ℕ → Tok) (s : List ℕ) (i : ℕ) {end : ℕ} (e : end ≡ fir
   no : {A : Type 0} (a b : A) {x : A} → r ≡ false → x ≡ b → x ≡ pick (is_word t (head_of (words_in s)) i) a b
   no a b h g = told-no _ a b test h g
 
-pub find-end-requires : goal.find-end-requires
+pub returns-in_err-behind : goal.returns-in_err-behind
 unfolding either_at
-find-end-requires c = search rules
+returns-in_err-behind c = search (rules, yes, taken-no, stop_taken)
 
-pub part-requires : goal.part-requires
+pub returns-then-peek_kw : goal.returns-then-peek_kw
 unfolding either_at
-part-requires c = search rules
+returns-then-peek_kw c = taken-ok _ (yes _ _ _ c.find-end.ensures c.part.ensures c.peek_kw.ensures _ _ c.if-peek_kw.true (then-taken _ _ c.expect_phrase.ensures c.in_ok-behind.was refl))
 
-pub peek_kw-requires : goal.peek_kw-requires
+pub returns-in_err-behind-2 : goal.returns-in_err-behind-2
 unfolding either_at
-peek_kw-requires c = search rules
+returns-in_err-behind-2 c = search (rules, no, taken-no, stop_taken)
 
-pub expect_phrase-phrase-requires : goal.expect_phrase-phrase-requires
+pub returns : goal.returns
 unfolding either_at
-expect_phrase-phrase-requires c = search rules
-
-pub returns-in-No : goal.returns-in-No
-unfolding either_at
-returns-in-No c = search (rules, yes, taken-no, stop_taken)
-
-pub returns-in-Got : goal.returns-in-Got
-unfolding either_at
-returns-in-Got c = search (rules, yes, taken-ok, then-taken)
-
-pub expect_phrase-phrase-requires-2 : goal.expect_phrase-phrase-requires-2
-unfolding either_at
-expect_phrase-phrase-requires-2 c = search rules
-
-pub returns-in-No-phrase : goal.returns-in-No-phrase
-unfolding either_at
-returns-in-No-phrase c = search (rules, no, taken-no, stop_taken)
-
-pub returns-in-Got-phrase : goal.returns-in-Got-phrase
-unfolding either_at
-returns-in-Got-phrase c = search (rules, no, taken-ok, then-taken)
+returns c = taken-ok _ (no _ _ _ c.find-end.ensures c.part.ensures c.peek_kw.ensures _ _ c.if-peek_kw.false (then-taken _ _ c.expect_phrase-2.ensures c.in_ok-behind-2.was refl))

@@ -1,16 +1,11 @@
-use borrow.Author.Rules.{rules}
 use Rattle.tokens.specs.Cursor.{tokens}
 use Rattle.tokens.proofs.CursorLaws.{kind-none, kind-some}
 use Rattle.tokens.proofs.cursor.Cursor.peek_is.Goals as goal
 
-pub kind-here-requires : goal.kind-here-requires
+pub returns-then-here-ne0 : goal.returns-then-here-ne0
 unfolding tokens
-kind-here-requires c = search rules
+returns-then-here-ne0 c = kind-some _ _ _ c.peek-here.ensures c.if-here-ne0.true
 
-pub returns-then-here-eq0 : goal.returns-then-here-eq0
+pub returns-else-here-ne0 : goal.returns-else-here-ne0
 unfolding tokens
-returns-then-here-eq0 c = kind-none _ _ _ c.kind-here.ensures c.if-here-eq0.true
-
-pub returns : goal.returns
-unfolding tokens
-returns c = kind-some _ _ _ c.kind-here.ensures c.if-here-eq0.false
+returns-else-here-ne0 c = rw c.if-here-ne0.false (kind-none _ _ _ c.peek-here.ensures c.if-here-ne0.false)

@@ -1,6 +1,0 @@
-use borrow.Author.Rules.{rules}
-use Rattle.tergyosul.proofs.tergyosul_read_archive.Statement.{statement}
-use Rattle.tergyosul.proofs.tergyosul_read_archive.Tie as tie
-
-pub tergyosul_read_archive_spec : {M : Type 1} → statement M
-tergyosul_read_archive_spec = tie.close (tie.spec (λ c κs. search rules) (λ c. search rules) (λ c. search rules) (λ c. search rules))

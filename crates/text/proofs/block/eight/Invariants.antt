@@ -1,0 +1,12 @@
+use mathlib.Core.Path.{◌≡◌}
+use mathlib.Core.Bool.{Bool}
+use Prim.Native.Nat.{ℕ, ◌+◌}
+use lib.ListN.{take}
+use Rattle.text.specs.Part.{part_of}
+use Rattle.text.specs.Block.{Tells, every}
+use Rattle.text.proofs.block.eight.Given as goal
+
+-- all bytes up to here pass
+abbrev pub invariant-loop-b : goal.invariant-loop-b
+invariant-loop-b g l =
+    (p : ℕ → Bool) → Tells (goal.F-post g l.test) p → l.all ≡ every p (take l.b-index (part_of l.s l.at (l.at + 8)))

@@ -1,6 +1,0 @@
-use Rattle.std.proofs.Common.{◌-◌, ◌≡◌, ℕ, ◌+◌, ◌*◌, ◌<◌, ◌≤◌, length}
-use Rattle.wording.proofs.rewritten.lines.Given as goal
-
--- proposed from the loop's first test
-abbrev pub decreases-loop-class : goal.decreases-loop-class
-decreases-loop-class l = 8 - l.class
