@@ -1,4 +1,4 @@
--- Rows: what a copy of their words leaves, and their comparison.
+-- Rows: what a copy of their words leaves, their comparison, and words that make the same row.
 use Prim.Native.Nat.{ℕ, zero, suc, ◌+◌, ◌*◌, ◌-◌, ◌/◌, ◌<◌, ◌≤◌}
 use mathlib.Core.Path.{◌≡◌, refl, ◌∙◌, ap, sym}
 use mathlib.Core.Bool.{Bool, true, false, ◌&&◌}
@@ -78,3 +78,26 @@ seven (a ∷ b ∷ c ∷ d ∷ e ∷ f ∷ g ∷ x ∷ xs) h = absurd (omega ari
 pub value_read : (v : Value) (ws : List ℕ) → ws ≡ value_words v → length ws ≡ 7 →
     get_or ws 0 0 ∷ get_or ws 1 0 ∷ get_or ws 2 0 ∷ get_or ws 3 0 ∷ get_or ws 4 0 ∷ get_or ws 5 0 ∷ get_or ws 6 0 ∷ [] ≡ value_words v
 value_read v ws e h = seven ws h ∙ e
+
+-- the same words, and zeros behind those of the second
+pub data Alike : List ℕ → List ℕ → Type 0 where
+  ends : Alike [] []
+  zero_more : {xs : List ℕ} → Alike xs [] → Alike (0 ∷ xs) []
+  word : {a b : ℕ} {xs ys : List ℕ} → a ≡ b → Alike xs ys → Alike (a ∷ xs) (b ∷ ys)
+
+alike-padded : (n : ℕ) {xs ys : List ℕ} → Alike xs ys → padded (λ (k : ℕ). k) 0 n xs ≡ padded (λ (k : ℕ). k) 0 n ys
+unfolding padded
+alike-padded zero h = refl
+alike-padded (suc n) ends = refl
+alike-padded (suc n) (zero_more h) = ap (λ (l : List ℕ). 0 ∷ l) (alike-padded n h)
+alike-padded (suc n) (word e h) = rw (e, alike-padded n h)
+
+pub row-alike : {w xs ys : List ℕ} → w ≡ whole_row xs → Alike xs ys → w ≡ whole_row ys
+unfolding whole_row
+row-alike e h = e ∙ alike-padded row_words h
+
+-- a row whose twelve words are known is whole
+pub row_of : {a b c d e f g h i j k l : ℕ} {ys : List ℕ} → Alike (a ∷ b ∷ c ∷ d ∷ e ∷ f ∷ g ∷ h ∷ i ∷ j ∷ k ∷ l ∷ []) ys →
+    a ∷ b ∷ c ∷ d ∷ e ∷ f ∷ g ∷ h ∷ i ∷ j ∷ k ∷ l ∷ [] ≡ whole_row ys
+unfolding whole_row row_words padded
+row_of h = row-alike refl h

@@ -11,11 +11,12 @@ ghost use Rattle.old_rows.specs.Made.{most_bytes, RowsMade};
 use crate::row::Change;
 use crate::{convert, name, row};
 use model::{Aggregate, Online, Power, Ref, Trigger, TriggerRow, Triggers};
+use possible::failing;
 use sheet::names::Numbered;
 use sheet::{Habit, Settings, View, adapters};
 use spelling::numbers;
 use spelling::put::put;
-use writing::{Written, failing};
+use writing::Written;
 
 // How many bytes the buffer has at least, and how many four rows have at most.
 pub const LEAST_BYTES: usize = 512;

@@ -3,9 +3,9 @@ ghost use Rattle.std.specs.Prelude.{◌≡◌, true};
 ghost use Rattle.sheet.specs.View.{view_of};
 ghost use Rattle.writing.specs.Writing.{possible_counts, possible_trigger_from, possible_condition_from, first_impossible, first_unreached};
 
-use crate::{possible, reached};
+use crate::{failing, possible, reached};
 use sheet::View;
-use writing::{ConditionFrom, Lists, TriggerFrom, failing};
+use writing::{ConditionFrom, Lists, TriggerFrom};
 
 // How many entries a list has at most.
 const MOST_ENTRIES: u32 = 4;

@@ -133,7 +133,12 @@ fn answer(input: &mut impl Read, out: &mut impl Write, first: u8) -> Option<()> 
     }
 }
 
-// One answer, which is written to standard output; false at the end of the input, and where it has something else. What can't be written is lost.
+// Writes to standard output at once; what can't be written is lost.
+fn print(rt: &impl Print, w: &[u8]) {
+    let _ = rt.write_all(w);
+}
+
+// One answer, which is written to standard output; false at the end of the input, and where it has something else.
 fn one(rt: &impl Print, input: &mut impl Read, out: &mut Cursor<[u8; ROOM]>) -> bool {
     let mut first = [0u8; 1];
     if input.read_exact(&mut first).is_err() {
@@ -141,11 +146,11 @@ fn one(rt: &impl Print, input: &mut impl Read, out: &mut Cursor<[u8; ROOM]>) -> 
     }
     out.set_position(0);
     if answer(input, out, first[0]).is_none() {
-        let _ = rt.write_all(b"bad input\n");
+        print(rt, b"bad input\n");
         return false;
     }
     let end = out.position() as usize;
-    let _ = rt.write_all(text::part::part(out.get_ref(), 0, end));
+    print(rt, text::part::part(out.get_ref(), 0, end));
     true
 }
 

@@ -3,16 +3,18 @@ use crate::{layout, show};
 use std::io::{Result, Write};
 use tokens::record::{self, RECORD_SIZE};
 
+// Written at once and not by fields, for speed: an answer may have two thousand such lines.
 fn token(out: &mut impl Write, words: &[u32], i: usize) -> Result<()> {
-    let fields = [
+    write!(
+        out,
+        "\ntoken {} {} {} {} {} {}",
         record::kind(words, i),
         record::number(words, i),
         record::start(words, i),
         record::length(words, i),
         record::line(words, i),
-        record::column(words, i),
-    ];
-    show::line(out, b"", &fields, b"\ntoken #0 #1 #2 #3 #4 #5")
+        record::column(words, i)
+    )
 }
 
 // Whether a buffer is as it was before the call from an index on: each of it is what stood there.

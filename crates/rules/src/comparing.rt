@@ -38,7 +38,10 @@ fn is_same(a: Lexed<'_>, b: Lexed<'_>, i: usize) -> bool {
     if kind != kind::WORD && kind != kind::STRING {
         return true;
     }
-    record::bytes(a.file.bytes, a.words, i) == record::bytes(b.file.bytes, b.words, i)
+    text::part::same(
+        record::bytes(a.file.bytes, a.words, i),
+        record::bytes(b.file.bytes, b.words, i),
+    )
 }
 
 // The number of the token with an index, counted from 1.

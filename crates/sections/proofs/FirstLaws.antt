@@ -1,4 +1,4 @@
--- The place of a word in a list, as a chain of comparisons finds it.
+-- The place of a word in a list, as a chain of comparisons finds it, and what an arm and a return behind a row of tests are proved by.
 use Prim.Native.Nat.{ℕ, ◌+◌}
 use native.Mathlib.Omega.{arith}
 use native.Mathlib.Nat.{zero-add}
@@ -6,14 +6,15 @@ use mathlib.Core.Path.{◌≡◌, ◌∙◌, refl, sym}
 use mathlib.Core.Bool.{Bool, true, false}
 use mathlib.Core.List.{List, [], ◌∷◌}
 use lib.ListN.{length}
-use lib.Dec.{ltb}
+use lib.Dec.{eqb, ltb}
 use borrow.Author.Rules.{rules}
 use borrow.Author.Tests.{lt-ltb, ltb-true}
 use Rattle.text.specs.Choice.{pick}
 use Rattle.text.specs.Part.{same_bytes}
 use Rattle.text.specs.Split.{split}
 use Rattle.text.proofs.Tests.{told-yes, told-no}
-use Rattle.tokens.specs.Result.{ok, refuse}
+use Rattle.tokens.specs.Result.{Res, ok, no, refuse}
+use Rattle.tokens.specs.declared.cursor.Refusal.{Refusal}
 use Rattle.tokens.specs.Phrase.{words_in, position, choice_by}
 use Rattle.sections.specs.First.{first_words, place_from}
 use Rattle.language.specs.Trigger.{trigger_words}
@@ -53,3 +54,12 @@ condition_by_lem i j w d e = by_place condition_words i j w refl d e
 
 -- closes a chain of comparisons
 pub ruleset places = (rules, told-yes, told-no)
+
+-- one arm of a match on a number m, which is k: a test for another number fails
+pub eq-other : {A : Type 0} (m n : ℕ) (a b : A) {k : ℕ} {x : A} → m ≡ k → eqb k n ≡ false → x ≡ b → x ≡ pick (eqb m n) a b
+eq-other m n a b d f e = rw (d, f) e
+
+-- a refusal that a function made
+pub refused : {A : Type 0} (number i : ℕ) {r : Refusal} → r ≡ record { number = number; token = i; detail = 0 } →
+    ◌≡◌ {A = Res A} (no r) (refuse number i)
+refused number i e = rw e

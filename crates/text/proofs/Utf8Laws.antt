@@ -1,12 +1,10 @@
 -- Laws on decoding that the proofs of this crate and of those above it cite.
 use mathlib.Core.Path.{◌≡◌, ◌∙◌, ap, sym}
 use mathlib.Core.Bool.{Bool}
-use Prim.Native.Nat.{ℕ, suc, ◌+◌, ◌<◌, ◌≤◌}
+use Prim.Native.Nat.{ℕ, suc, ◌+◌, ◌-◌, ◌<◌, ◌≤◌}
 use native.Mathlib.Omega.{arith}
 use mathlib.Core.List.{List}
 use lib.Count.{count_leading_zeros}
-use mir.Syntax.{w8}
-use Rattle.std.specs.Int.{leading_ones}
 use lib.ListN.{length, get_or, drop, drop_of_length-le}
 use lib.Seq.{get_or-drop, drop-cons}
 use lib.Dec.{eqb, eqb→eq, ltb}
@@ -21,11 +19,11 @@ abbrev pub by_ones : ℕ → ℕ
 by_ones n = pick (eqb n 0) 1 (pick (eqb n 1) 0 (pick (ltb n 5) n 0))
 
 ones-test : ℕ → Bool
-ones-test b = eqb (sequence_length b) (by_ones (leading_ones w8 b))
+ones-test b = eqb (sequence_length b) (by_ones (count_leading_zeros 8 (255 - b)))
 
-pub ones : (b : ℕ) → b < 256 → sequence_length b ≡ by_ones (leading_ones w8 b)
+pub ones : (b : ℕ) → b < 256 → sequence_length b ≡ by_ones (count_leading_zeros 8 (255 - b))
 unfolding ones-test sequence_length count_leading_zeros
-ones b h = eqb→eq (sequence_length b) (by_ones (leading_ones w8 b)) (below ones-test 256 tt b h)
+ones b h = eqb→eq (sequence_length b) (by_ones (count_leading_zeros 8 (255 - b))) (below ones-test 256 tt b h)
 
 -- past the end there is no character
 pub decode-end : (s : List ℕ) (at : ℕ) → length s ≤ at → End ≡ decode_at s at

@@ -27,5 +27,8 @@ pub fn is_word_start(code: u32) -> bool
 pub fn is_word_part(code: u32) -> bool
     ensures { result ≡ is_word_part code }
 {
-    matches!(code, 0x61..=0x7A | 0x30..=0x39 | 0x41..=0x5A | 0x5F)
+    if code < 0x61 {
+        return matches!(code, 0x41..=0x5A | 0x30..=0x39 | 0x5F);
+    }
+    code <= 0x7A
 }

@@ -27,7 +27,7 @@ fn octet(s: &[u8], i: usize) -> u32
 fn sequence_length(lead: u8) -> u32
     ensures { result ≡ sequence_length lead }
 {
-    match lead.leading_ones() {
+    match u8::leading_zeros(255 - lead) {
         0 => 1,
         ones @ 2..=4 => ones,
         _ => 0,

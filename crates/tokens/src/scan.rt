@@ -177,10 +177,10 @@ pub fn string_end(s: &[u8], from: Place) -> Result<(usize, Place), usize>
                     line,
                     column: count_up(column),
                 };
-                return Ok((at, next));
+                break Ok((at, next));
             }
             if b == 0xA {
-                return Err(at);
+                break Err(at);
             }
             at += 1;
             column = count_up(column);
@@ -191,7 +191,7 @@ pub fn string_end(s: &[u8], from: Place) -> Result<(usize, Place), usize>
                     line = next.line;
                     column = next.column;
                 }
-                None => return Err(at),
+                None => break Err(at),
             }
         }
     }

@@ -1,14 +1,20 @@
-// What is written to standard output or, beside one that may go to a file, to standard error. What cannot be written is lost: there is nowhere else to say so.
+// What is written to standard output or, beside one that may go to a file, to standard error.
 use crate::characters::{Backquoted, Shown};
 use std::fmt::Display;
+use std::io::Result;
+
+// What cannot be written is lost here, on either: there is nowhere else to say so.
+fn lose(written: Result<()>) {
+    let _ = written;
+}
 
 pub fn bytes(rt: &impl Print, w: &[u8]) {
-    let _ = rt.write_all(w);
+    lose(rt.write_all(w));
 }
 
 // A number, a word, or a sentence with such parts.
 pub fn text(rt: &impl Print, d: impl Display + Drop) {
-    let _ = rt.print(d);
+    lose(rt.print(d));
 }
 
 pub fn byte(rt: &impl Print, b: u8) {

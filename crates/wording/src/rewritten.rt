@@ -155,7 +155,7 @@ fn differ<F: Fn(Class) -> bool>(rule: Lexed<'_>, written: Lexed<'_>, is_in: F) -
         let (Some(a), Some(b)) = (i, j) else {
             return i.is_some() || j.is_some();
         };
-        if rule.bytes(a) != written.bytes(b) {
+        if !text::part::same(rule.bytes(a), written.bytes(b)) {
             return true;
         }
         i = next(rule, a.saturating_add(1), &is_in);
@@ -213,7 +213,9 @@ fn has_names(rule: Lexed<'_>, rows: &[u8]) -> bool {
     for l in rows.split_inclusive(split::is_line_end) {
         let row = Row(l.strip_suffix(b"\n").unwrap_or(l));
         match next(rule, at, &|c| c == Class::Names) {
-            Some(i) if rule.bytes(i) == row.field(Field::Name) => at = i.saturating_add(1),
+            Some(i) if text::part::same(rule.bytes(i), row.field(Field::Name)) => {
+                at = i.saturating_add(1)
+            }
             _ => return false,
         }
     }

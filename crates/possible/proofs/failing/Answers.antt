@@ -2,7 +2,7 @@ use mathlib.Core.Path.{refl, ap, ◌∙◌}
 use native.Mathlib.Omega.{arith}
 use Rattle.std.proofs.lemmas.Fn.{says_at}
 use Rattle.writing.proofs.PassedLaws.{passed_none, passed_on, passed-not, passed-all}
-use Rattle.writing.proofs.failing.Goals as goal
+use Rattle.possible.proofs.failing.Goals as goal
 
 pub loop-i-init : goal.loop-i-init
 loop-i-init g c = λ passes says. passed_none passes c.args.from c.args.rows.now

@@ -4,7 +4,7 @@ use Prim.Native.Nat.{◌+◌}
 use lib.ListN.{drop}
 use Rattle.std.specs.Fn.{FnReturnsAt}
 use Rattle.writing.specs.Writing.{failing}
-use Rattle.writing.proofs.failing.Given as goal
+use Rattle.possible.proofs.failing.Given as goal
 
 -- the first that fails is the first from here on
 abbrev pub invariant-loop-i : goal.invariant-loop-i
