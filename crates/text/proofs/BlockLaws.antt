@@ -40,6 +40,11 @@ not-or-last true u = refl
 not-or-last false true = refl
 not-or-last false false = refl
 
+pub not-or-not : (t u : Bool) → not (t || not u) ≡ (not t && u)
+not-or-not true u = refl
+not-or-not false true = refl
+not-or-not false false = refl
+
 pub pick_true : (t : Bool) → t ≡ pick t true false
 pick_true true = refl
 pick_true false = refl

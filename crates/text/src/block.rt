@@ -2,7 +2,8 @@
 ghost use Rattle.std.specs.Prelude.{◌≡◌, ◌+◌, ◌≤◌, ℕ, Bool, true, length};
 ghost use Rattle.text.specs.Block.{Tells, block, Row};
 
-// Are there eight bytes at an offset that all pass a test? No test waits for another, so that the machine makes all at once.
+// Are there eight bytes at an offset that all pass a test? No test waits for another, so that the machine makes all at once. Whether one
+// fails is held, which costs it less than whether all pass.
 fn eight<F: Fn(u8) -> bool>(s: &[u8], at: usize, test: &F) -> bool
     requires { F.IsAlwaysCallable test.now }
     ensures tells { (p : ℕ → Bool) → Tells (F.post test.now) p → result ≡ block p s.now at }
@@ -12,11 +13,11 @@ fn eight<F: Fn(u8) -> bool>(s: &[u8], at: usize, test: &F) -> bool
     if len < 8 || len - 8 < at {
         return false;
     }
-    let mut all = true;
+    let mut fails = false;
     for b in &s[at..at + 8] {
-        all &= test(*b);
+        fails |= !test(*b);
     }
-    all
+    !fails
 }
 
 // Behind blocks of eight bytes that all pass a test and stand in a row from an offset on.

@@ -124,13 +124,13 @@ fn single_punct(code: u32, p: Place, next: Place) -> Result<Lexeme, u32>
 fn punct_token(s: &[u8], code: u32, p: Place, next: Place) -> Result<Lexeme, u32>
     ensures { result ≡ punct code p next (look s.now next) }
 {
-    match next.bump(s) {
-        Some((second, end)) => match pair_kind(code, second) {
-            0 => single_punct(code, p, next),
-            kind => Ok(span(kind, 0, p, end)),
-        },
-        None => single_punct(code, p, next),
+    if let Some((second, end)) = next.bump(s) {
+        let kind = pair_kind(code, second);
+        if kind != 0 {
+            return Ok(span(kind, 0, p, end));
+        }
     }
+    single_punct(code, p, next)
 }
 
 // The string whose first character stands at p, behind the quote.

@@ -1,10 +1,10 @@
-use mathlib.Core.Path.{refl}
+use mathlib.Core.Path.{refl, ◌∙◌}
 use mathlib.Core.Bool.{false≢true}
 use native.Mathlib.Omega.{arith}
 use Prim.Native.Nat.{◌+◌}
 use Rattle.text.specs.Part.{part_of}
 use Rattle.text.specs.Block.{every}
-use Rattle.text.proofs.BlockLaws.{block-past, block-here, every-next, part-byte}
+use Rattle.text.proofs.BlockLaws.{block-past, block-here, every-next, not-or-not, part-byte}
 use Rattle.text.proofs.block.eight.Goals as goal
 use Rattle.text.proofs.block.eight.Goals.{then-len-lt8-via-then-len-lt8, then-len-lt8-via-else-len-lt8+then-len-at}
 
@@ -25,8 +25,9 @@ pub loop-b-preserved : goal.loop-b-preserved
 unfolding part_of
 loop-b-preserved g c =
     λ p t.
-    every-next p (part_of c.args.s.now c.args.at (c.args.at + 8)) c.loop-b.b-index c.loop-b-test.true (c.loop-b.invariant p t)
-    (t _ _ (part-byte c.args.s.now c.args.at (c.args.at + 8) c.loop-b.b-index c.type_inv.s c.loop-b-test.true) c.test-all.ensures)
+    not-or-not c.loop-b.fails c.test.result
+    ∙ every-next p (part_of c.args.s.now c.args.at (c.args.at + 8)) c.loop-b.b-index c.loop-b-test.true (c.loop-b.invariant p t)
+    (t _ _ (part-byte c.args.s.now c.args.at (c.args.at + 8) c.loop-b.b-index c.type_inv.s c.loop-b-test.true) c.test.ensures)
 
 pub returns : goal.returns
 unfolding part_of
