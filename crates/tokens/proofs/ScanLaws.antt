@@ -474,6 +474,11 @@ plain_row s first line column at h row =
     (λ n l k i. (omega arith, plain-on s first n line column i.0 i.1 (any_default s n l) (sym k) refl)) first at row
     (omega arith, rw (counted_none column first h))
 
+-- the place behind a character stands where that ends
+pub after-at : (p : Place) (code n : ℕ) {next : Place} → next ≡ after p (record { code = code; next = n }) → next.at ≡ n
+unfolding after
+after-at p code n e = rw e refl
+
 -- over a comment: from p over its plain bytes to q
 module _ (s : List ℕ) (p q : Place) {start : Place} (i : trivia 1 p (chars s p.at) ≡ start)
     (m : trivia 1 q (chars s q.at) ≡ trivia 1 p (chars s p.at)) where
@@ -482,6 +487,11 @@ module _ (s : List ℕ) (p q : Place) {start : Place} (i : trivia 1 p (chars s p
       let t = byte-any s q.at e (omega arith) q.line q.column in
       let k = line_modes h in
       sym (trivia-step t 0 k.0 (λ x. omega arith)) ∙ trivia-step t 1 k.1 (λ x. omega arith) ∙ m ∙ i
+
+  -- behind its LF
+  pub comment-passed : {b : ℕ} {next : Place} → b ≡ get_or s q.at 0x80 → b ≡ 0x0A → next ≡ after q (record { code = 0x0A; next = q.at + 1 }) →
+      trivia 0 next (chars s next.at) ≡ start
+  comment-passed e h n = rw (n, ← h) (trivia-step (byte-any s q.at e (omega arith) q.line q.column) 1 (line_modes h).1 (λ x. omega arith)) ∙ m ∙ i
 
   module _ {a : Option (ℕ × Place)} (g : a ≡ step_of q (chars s q.at)) where
     pub comment_stop : a ≡ None → trivia 0 q (chars s q.at) ≡ start

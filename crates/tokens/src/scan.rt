@@ -97,7 +97,7 @@ fn plain_end(s: &[u8], from: Place) -> Place
     }
 }
 
-// Where a comment ends whose # stands before a place: at its LF, which is white space, or where no character begins.
+// Where a comment ends whose # stands before a place: behind its LF, which is white space, or where no character begins.
 fn comment_end(s: &[u8], from: Place) -> Place
     ensures { (trivia 0 result (chars s.now result.at) ≡ trivia 1 from (chars s.now from.at)) × (from.at ≤ result.at) }
 {
@@ -105,7 +105,7 @@ fn comment_end(s: &[u8], from: Place) -> Place
     loop {
         let q = plain_end(s, p);
         if octet(s, q.at) == 0xA {
-            return q;
+            return q.after(0xA, q.at + 1);
         }
         match q.decoded(s) {
             Some((_, next)) => p = next,

@@ -1,13 +1,16 @@
 use mathlib.Core.Path.{refl}
+use native.Mathlib.Omega.{arith}
 use borrow.Author.Rules.{rules}
-use Rattle.tokens.proofs.ScanLaws.{comment-line, comment_stop, comment-on, comment-behind, comment-less}
+use Rattle.tokens.proofs.ScanLaws.{after-at, comment-passed, comment_stop, comment-on, comment-behind, comment-less}
 use Rattle.tokens.proofs.scan.comment_end.Goals as goal
 
 pub loop-q-init : goal.loop-q-init
 loop-q-init c = (search rules, refl)
 
 pub returns-then-octet-eq10 : goal.returns-then-octet-eq10
-returns-then-octet-eq10 c = (search (rules, comment-line), search rules)
+returns-then-octet-eq10 c =
+    let e = after-at _ _ _ c.after.ensures in
+    (search (rules, comment-passed), omega (arith, c.loop-q.invariant.0, c.plain_end-q.ensures.1))
 
 pub loop-q-smaller : goal.loop-q-smaller
 loop-q-smaller c = search (rules, comment-less)
